@@ -1,5 +1,7 @@
 -- The numbers of refusals and layers. Every promise about a refusal goes through these.
 use Prim.Native.Nat.{ℕ}
+use Rattle.std.specs.declared.result.Result.{Result}
+use Rattle.std.specs.declared.result.Result.the-variants.{Ok, Err}
 use Rattle.faults.specs.declared.Fault.{Fault}
 use Rattle.faults.specs.declared.Layer.{Layer}
 use Rattle.faults.specs.declared.Layer.the-variants.{Database, Bottom, Cache, Quota, Window}
@@ -31,3 +33,8 @@ layerNumber Window = 4
 -- a refusal as three numbers: which refusal, which layer, which block
 abbrev pub numbers : Fault → ℕ × ℕ × ℕ
 numbers f = (refusalNumber (f .refusal), layerNumber (f .layer), f .block)
+
+-- an answer with its refusal as three numbers
+abbrev pub told : {X : Type 0} → Result X Fault → Result X (ℕ × ℕ × ℕ)
+told (Ok x) = Ok x
+told (Err f) = Err (numbers f)

@@ -1,0 +1,5 @@
+use Rattle.keys.proofs.Sames.{laws, by-bytes}
+use Rattle.keys.proofs.key_laws.Needs as need
+
+pub returns : need.returns
+returns c = record { laws = laws; bytes = by-bytes }

@@ -1,4 +1,4 @@
-ghost use Prim.Native.Nat.{_+_, _*_, _<_, _≤_};
+ghost use Prim.Native.Nat.{_+_, _*_, _<_, _≤_, min};
 ghost use lib.ListN.{length, replicate};
 ghost use mathlib.Core.Path.{_≡_};
 ghost use Rattle.pages.specs.Page.{Good, keyEnd, pairs};
@@ -51,6 +51,13 @@ impl<'a> PairPage<'a> {
         ensures { λ r. ⌜ r ≡ pairs (now (now (self .entry) .bytes)) ⌝ }
     {
         get16(self.bytes, 0) / 2
+    }
+
+    // Where the key of pair k ends, and past the last pair where the free middle does.
+    pub fn key_end(&self, k: usize) -> usize
+        ensures { λ r. ⌜ r ≡ keyEnd (now (now (self .entry) .bytes)) (min k (pairs (now (now (self .entry) .bytes)))) ⌝ }
+    {
+        key_end(self.bytes, k.min(self.count()))
     }
 
     // Where the key and the value of pair k lie.

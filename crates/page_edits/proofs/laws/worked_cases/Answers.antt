@@ -1,0 +1,5 @@
+use Rattle.page_edits.proofs.Worked.{cases}
+use Rattle.page_edits.proofs.laws.worked_cases.Needs as need
+
+pub returns : need.returns
+returns c = cases

@@ -1,0 +1,4 @@
+pub mod Bytes
+pub mod Write
+pub mod Edit
+pub mod Laws

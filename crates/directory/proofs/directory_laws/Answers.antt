@@ -1,0 +1,17 @@
+use Rattle.directory.proofs.Lookups.{ends-there, ends-once, index-on-way, ways-part, index-below, page-below, page-reachable, home}
+use Rattle.directory.proofs.Splits.{split-page}
+use Rattle.directory.proofs.directory_laws.Needs as need
+
+pub returns : need.returns
+returns c =
+    record {
+      ends = ends-there;
+      once = ends-once;
+      index = index-on-way;
+      apart = ways-part;
+      indexes = index-below;
+      pages = page-below;
+      reachable = page-reachable;
+      home = home;
+      split = split-page;
+    }

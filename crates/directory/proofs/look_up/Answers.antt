@@ -1,9 +1,9 @@
-use Prim.Native.Nat.{ℕ, suc, _+_, _/_, _^_, _<_}
+use Prim.Native.Nat.{suc, _<_}
 use mathlib.Core.Path.{_≡_, sym, _∙_, ap}
 use mathlib.Core.Bool.{true, false}
 use native.Mathlib.Numerals.{add-one}
 use native.Mathlib.Omega.{arith}
-use Rattle.directory.specs.Tree.{bit, bitsOf, node, Ends}
+use Rattle.directory.specs.Tree.{low, bitsOf, indexOf, pageOf, node}
 use Rattle.directory.proofs.Bits.{bit-masked}
 use Rattle.directory.proofs.Lookups.{below-suc, node-lt, ends-once, index-on-way}
 use Rattle.directory.proofs.look_up.Needs as need
@@ -35,5 +35,6 @@ returns c =
     let clear : t < 15 → bits (node h t) ≡ false
     = elim (c .loop-depth-test .came) [ then-loop-depth-test·else-is-set w ↦ (λ _. cc (w .if-is-set .ensures tt)) | else-loop-depth-test w ↦ (λ k. absurd (omega (arith, w .loop-depth-test .left))) ] in
     let d = ends-once bits h t (record { limit = inv .0; above = inv .3; clear = clear }) in
-    let i = index-on-way bits h in
-    record { index = (cc); depth = (cc); page = (cc); limit = omega arith }
+    let way : node h t ≡ indexOf bits h = ap (node h) d ∙ sym (index-on-way bits h) in
+    let page : low h t ≡ pageOf bits h = ap (low h) d in
+    record { index = omega arith; depth = omega arith; page = omega arith; limit = omega arith }

@@ -1,26 +1,17 @@
 -- What setting the bit of a leaf does to lookups.
 use Prim.Native.Nat.{ℕ, zero, suc, _+_, _*_, _^_, _<_, _≤_}
-use mathlib.Core.Path.{_≡_, refl, sym, _∙_, ap, subst}
-use mathlib.Core.Bool.{Bool, true, false, cond}
+use mathlib.Core.Path.{_≡_, sym, _∙_, ap, subst}
+use mathlib.Core.Bool.{Bool, true, false}
 use mathlib.Core.Logic.{⊎-elim}
 use native.Mathlib.Omega.{arith}
 use native.Mathlib.Nat.{mod-mod, add-mod-right}
-use lib.Dec.{eqb}
 use lib.Pow.{pow-mono}
-use Rattle.std.proofs.shelf.Tests.{cond-both, cases-lt, eq-eqb, ne-eqb, cond-true, cond-false}
+use Rattle.std.proofs.shelf.Tests.{cases-lt}
 use Rattle.directory.specs.Tree.{bit, low, indexOf, depthOf, pageOf, node, Ends, setBit, NoneUnder}
 use Rattle.directory.specs.Laws.{SplitPage}
+use Rattle.directory.proofs.Bits.{set-keeps, set-here, set-other}
 use Rattle.directory.proofs.Low.{low-lt, low-suc, low-low}
 use Rattle.directory.proofs.Lookups.{ways-part, node-agree, below-suc, ends-there, ends-once, index-on-way, ends-agree, depth-agree, page-agree, page-low}
-
-pub set-keeps : (bits : ℕ → Bool) (i j : ℕ) → bits j ≡ true → setBit bits i j ≡ true
-set-keeps bits i j e = cond-both (eqb j i) true (bits j) (λ b. b ≡ true) (λ _. refl) (λ _. e)
-
-pub set-other : (bits : ℕ → Bool) (i j : ℕ) → (j ≡ i → ⊥) → setBit bits i j ≡ bits j
-set-other bits i j n = cond-false (eqb j i) true (bits j) (ne-eqb j i n)
-
-pub set-here : (bits : ℕ → Bool) (i j : ℕ) → j ≡ i → setBit bits i j ≡ true
-set-here bits i j e = cond-true (eqb j i) true (bits j) (eq-eqb j i e)
 
 pub under-clear : (bits : ℕ → Bool) (i b : ℕ) → b < 2 → NoneUnder bits i → bits (2 * i + 1 + b) ≡ false
 under-clear bits i zero l c = ap bits (omega arith) ∙ c .0

@@ -77,6 +77,7 @@ fn low_bits(hash: u32, n: u32) -> u32
 
 // The laws of the directory, for every directory and every hash. There is nothing to run: the contract is the point.
 pub fn directory_laws() -> u8
+    ensures zero { λ r. ⌜ r ≡ 0 ⌝ }
     ensures ends { λ _. ⌜ EndsThere ⌝ }
     ensures once { λ _. ⌜ EndsOnce ⌝ }
     ensures index { λ _. ⌜ IndexOnWay ⌝ }

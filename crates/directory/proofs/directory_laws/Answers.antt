@@ -1,3 +1,4 @@
+use mathlib.Core.Path.{refl}
 use Rattle.directory.proofs.Lookups.{ends-there, ends-once, index-on-way, ways-part, index-below, page-below, page-reachable, home}
 use Rattle.directory.proofs.Splits.{split-page}
 use Rattle.directory.proofs.directory_laws.Needs as need
@@ -5,6 +6,7 @@ use Rattle.directory.proofs.directory_laws.Needs as need
 pub returns : need.returns
 returns c =
     record {
+      zero = refl;
       ends = ends-there;
       once = ends-once;
       index = index-on-way;

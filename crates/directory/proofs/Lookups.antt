@@ -5,19 +5,20 @@ use mathlib.Core.Bool.{Bool, true, false, cond}
 use mathlib.Core.Logic.{⊎-elim}
 use native.Mathlib.Omega.{arith}
 use native.Mathlib.Nat.{mod-mod, mod-one, pow-suc, eq-or-lt-of-le, le-of-suc-le-suc}
+use lib.Dec.{eqb}
 use lib.Pow.{pow-mono}
-use Rattle.std.proofs.shelf.Tests.{cond-both, cases-order, cases-lt, both-ways}
+use Rattle.std.proofs.shelf.Tests.{cond-both, cases-order, cases-lt, cases-eq, both-ways, eq-eqb, ne-eqb}
 use Rattle.std.proofs.shelf.Ways.{tells}
 use Rattle.directory.specs.Tree.{bit, low, child, descend, lookup, indexOf, depthOf, pageOf, node, Ends}
-use Rattle.directory.specs.Laws.{EndsThere, EndsOnce, IndexOnWay, WaysPart, IndexBelow, PageBelow, PageReachable, Home}
+use Rattle.directory.specs.Laws.{EndsThere, EndsOnce, IndexOnWay, WayGoesDown, WaysPart, IndexBelow, PageBelow, PageReachable, Home}
 use Rattle.directory.proofs.Low.{low-lt, low-suc, bit-low, low-low, low-fewer}
 
 -- the indexes on a hash's way
 
-pub child-node : (h t : ℕ) → child (node h t) (bit h t) ≡ node h (suc t)
-child-node h t = next (bit h t) (node h t) (omega arith)
+pub way-goes-down : WayGoesDown
+way-goes-down h t = next (bit h t) (node h t) (omega arith)
   where
-    next : (b i : ℕ) → b < 2 → child i b ≡ 2 * i + 1 + b
+    next : (b i : ℕ) → b < 2 → 2 * i + 1 + b ≡ child i b
     next b i l = grind (arith, tells)
 
 pub node-lt : (h t : ℕ) → t < 15 → node h t < 32767
@@ -67,7 +68,7 @@ descend-done bits h zero t e a = (record { limit = omega arith; above = a; clear
 descend-done bits h (suc n) t e a =
     let i = node h t in
     cond-both (bits i) (descend bits h n (child i (bit h t)) (suc t)) (i, t) (Done bits h)
-    (λ b. subst (λ (j : ℕ). Done bits h (descend bits h n j (suc t))) (sym (child-node h t))
+    (λ b. subst (λ (j : ℕ). Done bits h (descend bits h n j (suc t))) (way-goes-down h t)
     (descend-done bits h n (suc t) (omega arith) (below-suc (λ s. bits (node h s) ≡ true) t a b)))
     (λ b. (record { limit = omega arith; above = a; clear = λ _. b }, refl))
 
@@ -128,3 +129,13 @@ page-low bits g h e = sym (ap (low g) (page-depth bits g h e)) ∙ e
 
 pub home : Home
 home bits g h = (λ e. (page-agree bits g h e, depth-agree bits g h e), page-low bits g h)
+
+-- the same as a test
+pub home-test : (bits : ℕ → Bool) (g h : ℕ) → eqb (low g (depthOf bits h)) (pageOf bits h) ≡ eqb (pageOf bits g) (pageOf bits h)
+home-test bits g h =
+    let p = pageOf bits h in
+    let a = low g (depthOf bits h) in
+    ⊎-elim
+    (λ e. eq-eqb a p e ∙ sym (eq-eqb (pageOf bits g) p (page-agree bits g h e)))
+    (λ n. ne-eqb a p n ∙ sym (ne-eqb (pageOf bits g) p (λ e. n (page-low bits g h e))))
+    (cases-eq a p)

@@ -2,7 +2,7 @@
 use Prim.Native.Nat.{ℕ, suc, _+_, _*_, _^_, _<_}
 use mathlib.Core.Path.{_≡_}
 use mathlib.Core.Bool.{Bool}
-use Rattle.directory.specs.Tree.{bit, low, indexOf, depthOf, pageOf, Reachable, node, Ends, setBit, NoneUnder}
+use Rattle.directory.specs.Tree.{bit, low, child, indexOf, depthOf, pageOf, Reachable, node, Ends, setBit, NoneUnder}
 
 -- the depth of a lookup is one at which it ends
 abbrev pub EndsThere : Type 0
@@ -15,6 +15,10 @@ EndsOnce = (bits : ℕ → Bool) (h d : ℕ) → Ends bits h d → d ≡ depthOf
 -- the index of a lookup is the one at its depth on the hash's way
 abbrev pub IndexOnWay : Type 0
 IndexOnWay = (bits : ℕ → Bool) (h : ℕ) → indexOf bits h ≡ node h (depthOf bits h)
+
+-- a hash's way goes down as a lookup does
+abbrev pub WayGoesDown : Type 0
+WayGoesDown = (h t : ℕ) → node h (suc t) ≡ child (node h t) (bit h t)
 
 -- two ways meet in an index only at one depth, and only if their hashes agree in all bits so far
 abbrev pub WaysPart : Type 0

@@ -3,7 +3,7 @@ ghost use Prim.Native.Nat.{_≤_};
 ghost use lib.Dec.{eqb};
 ghost use Rattle.std.specs.Orderings.{Decides};
 ghost use Rattle.directory.specs.Tree.{low, bitsOf, indexOf, depthOf, pageOf, Reachable};
-ghost use Rattle.directory.specs.Laws.{EndsThere, EndsOnce, IndexOnWay, WaysPart, IndexBelow, PageBelow};
+ghost use Rattle.directory.specs.Laws.{EndsThere, EndsOnce, IndexOnWay, WayGoesDown, WaysPart, IndexBelow, PageBelow};
 ghost use Rattle.directory.specs.Laws.{PageReachable, Home, SplitPage};
 
 // No lookup goes deeper.
@@ -15,13 +15,14 @@ const BITS: u32 = 32_767;
 // Where the lookup of a hash ends.
 #[derive(Clone, Copy, PartialEq, Eq, Debug)]
 pub struct Leaf {
+    // the bit at which it ends; at depth 15 there is none, and this is past the last
     pub index: u32,
     pub depth: u32,
     pub page: u32,
 }
 
 impl Leaf {
-    // Whether a pair with this hash belongs on the leaf's page. It wants no look at the directory.
+    // Whether a pair with this hash is at home on the leaf's page, without a look at the directory.
     pub fn is_home(&self, hash: u32) -> bool
         ensures { λ r. ⌜ r ≡ eqb (low hash (now (self .entry) .depth)) (now (self .entry) .page) ⌝ }
     {
@@ -81,6 +82,7 @@ pub fn directory_laws() -> u8
     ensures ends { λ _. ⌜ EndsThere ⌝ }
     ensures once { λ _. ⌜ EndsOnce ⌝ }
     ensures index { λ _. ⌜ IndexOnWay ⌝ }
+    ensures way { λ _. ⌜ WayGoesDown ⌝ }
     ensures apart { λ _. ⌜ WaysPart ⌝ }
     ensures indexes { λ _. ⌜ IndexBelow ⌝ }
     ensures pages { λ _. ⌜ PageBelow ⌝ }

@@ -1,5 +1,5 @@
 use mathlib.Core.Path.{refl}
-use Rattle.directory.proofs.Lookups.{ends-there, ends-once, index-on-way, ways-part, index-below, page-below, page-reachable, home}
+use Rattle.directory.proofs.Lookups.{ends-there, ends-once, index-on-way, way-goes-down, ways-part, index-below, page-below, page-reachable, home}
 use Rattle.directory.proofs.Splits.{split-page}
 use Rattle.directory.proofs.directory_laws.Needs as need
 
@@ -10,6 +10,7 @@ returns c =
       ends = ends-there;
       once = ends-once;
       index = index-on-way;
+      way = way-goes-down;
       apart = ways-part;
       indexes = index-below;
       pages = page-below;

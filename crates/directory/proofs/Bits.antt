@@ -32,6 +32,10 @@ pub bits-out : (bytes : List ℕ) (i : ℕ) → 32767 ≤ i → bitsOf bytes i �
 unfolding bitsOf
 bits-out bytes i l = cond-false (ltb i 32767) (eqb (bit (getD bytes (i / 8) 0) (i % 8)) 1) false (le-ltb i 32767 l)
 
+-- whatever code takes for the bit, it need only be the bit
+pub bits-from : (bytes : List ℕ) (i : ℕ) {x : ℕ} → i < 32767 → x ≡ bit (getD bytes (i / 8) 0) (i % 8) → eqb x 1 ≡ bitsOf bytes i
+bits-from bytes i l e = ap (λ (x : ℕ). eqb x 1) e ∙ sym (bits-in bytes i l)
+
 -- past the end of the bytes each bit is clear
 pub bits-past : (bytes : List ℕ) (i : ℕ) → length bytes ≤ i / 8 → bitsOf bytes i ≡ false
 unfolding bitsOf

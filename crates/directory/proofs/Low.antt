@@ -5,6 +5,7 @@ use native.Mathlib.Omega.{arith}
 use native.Mathlib.Nat.{mod-lt, mod-eq-of-lt, add-comm}
 use native.Mathlib.Numerals.{one-add}
 use lib.Pow.{pow-pos, pow-mono, mod-pow-add, mod-mod-pow, field}
+use lib.Dec.{eqb}
 use Rattle.directory.specs.Tree.{bit, low}
 
 pub low-lt : (h t : ℕ) → low h t < 2 ^ t
@@ -32,3 +33,7 @@ low-low h s t l =
 -- numbers that agree in t low bits agree in fewer
 pub low-fewer : (g h s t : ℕ) → s ≤ t → low g t ≡ low h t → low g s ≡ low h s
 low-fewer g h s t l e = sym (low-low g s t l) ∙ ap (λ (x : ℕ). low x s) e ∙ low-low h s t l
+
+-- a test of what equals y is a test of y
+pub eqb-of : (y p : ℕ) {x : ℕ} → x ≡ y → eqb x p ≡ eqb y p
+eqb-of y p e = ap (λ (z : ℕ). eqb z p) e

@@ -2,7 +2,7 @@ use Prim.Native.Nat.{_/_, _%_}
 use mathlib.Core.Logic.{⊎-elim}
 use native.Mathlib.Omega.{arith}
 use lib.ListN.{getD}
-use Rattle.directory.proofs.Bits.{bit-masked, bits-in, bits-out, bits-past}
+use Rattle.directory.proofs.Bits.{bit-masked, bits-from, bits-out, bits-past}
 use Rattle.directory.proofs.is_set.Needs as need
 
 pub returns-then-i-ge-BITS : need.returns-then-i-ge-BITS
@@ -15,4 +15,4 @@ pub returns : need.returns
 returns c =
     let i = c .args .i in
     let bytes = c .args .dir .now in
-    cc (bits-in bytes i (omega arith), bit-masked (getD bytes (i / 8) 0) (i % 8))
+    bits-from bytes i (omega arith) (omega (arith, bit-masked (getD bytes (i / 8) 0) (i % 8)))

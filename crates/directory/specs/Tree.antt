@@ -47,7 +47,7 @@ pageOf bits h = low h (depthOf bits h)
 abbrev pub Reachable : (ℕ → Bool) → ℕ → Type 0
 Reachable bits p = pageOf bits p ≡ p
 
--- The rest says the same in other words.
+-- The rest is for the laws, which say the same in other words.
 
 -- the index at depth t on the way of h, whether or not the lookup gets there
 abbrev pub node : ℕ → ℕ → ℕ

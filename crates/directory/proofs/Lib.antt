@@ -1,0 +1,4 @@
+pub mod Low
+pub mod Bits
+pub mod Lookups
+pub mod Splits

@@ -73,8 +73,7 @@ pub impl<D: Device> Device for Window<D> as WindowDevice {
     ghost steps = { λ w c r t. Seen (Did (D·Device .steps) (D·Device .meaning)) (D·Device .meaning (w .below)) (w .below) (w .base) (w .length) c r (t .below) (t .base) (t .length) };
 
     fn limit(&self) -> u32 {
-        self.length
-            .min(self.below.limit().saturating_sub(self.base))
+        self.reach()
     }
 
     fn left(&self) -> u32 {

@@ -1,9 +1,10 @@
 // The page functions as C calls them, for the benchmark in bench/pages. Each call checks its page.
-ghost use lib.ListN.{length};
-ghost use mathlib.Core.Bool.{true};
 ghost use mathlib.Core.Path.{_≡_};
 ghost use Rattle.keys.specs.Hash.{hash};
-ghost use Rattle.pages.specs.Page.{Good};
+ghost use Rattle.bench_api.specs.Answers.{Edited, IfItFits, StartsAt};
+ghost use Rattle.page_edits.specs.Edit.{dropped, falling, withPair};
+ghost use Rattle.page_edits.specs.Write.{written};
+ghost use Rattle.pages.specs.Page.{Good, pairs-of};
 ghost use Rattle.std.specs.Orderings.{Decides};
 use keys::hash_of;
 use page_edits::append;
@@ -32,31 +33,57 @@ pub extern "C" fn sym_check(page: &[u8]) -> bool
 
 // Where the value of the key starts.
 #[unsafe(no_mangle)]
-pub extern "C" fn sym_find(page: &[u8], key: &[u8]) -> u32 {
-    let page = PairPage::read(page);
-    if !page.is_good() {
+pub extern "C" fn sym_find(page: &[u8], key: &[u8]) -> u32
+    ensures { λ r. ⌜ StartsAt (now (page .entry)) (now (key .entry)) r ⌝ }
+{
+    let pairs = PairPage::read(page);
+    if !pairs.is_good() {
         return NOT_GOOD;
     }
-    match page.find(key) {
+    match pairs.find(key) {
         Some((offset, _)) => u32::from(offset),
         None => NOT_THERE,
     }
 }
 
 #[unsafe(no_mangle)]
-pub extern "C" fn sym_without(page: &[u8], key: &[u8], out: &mut [u8]) -> bool {
-    let page = PairPage::read(page);
-    page.is_good() && without(&page, key, out).is_ok()
+pub extern "C" fn sym_without(page: &[u8], key: &[u8], out: &mut [u8]) -> bool
+    ensures { λ r. ⌜ Edited (now (page .entry)) (now (out .entry)) r (λ new. new ≡ written (dropped (now (key .entry)) (pairs-of (now (page .entry))))) (now (out .exit)) ⌝ }
+{
+    let pairs = PairPage::read(page);
+    if !pairs.is_good() {
+        return false;
+    }
+    match without(&pairs, key, out) {
+        Ok(_) => true,
+        Err(_) => false,
+    }
 }
 
 #[unsafe(no_mangle)]
-pub extern "C" fn sym_append(page: &[u8], key: &[u8], value: &[u8], out: &mut [u8]) -> bool {
-    let page = PairPage::read(page);
-    page.is_good() && append(&page, key, value, out).is_ok()
+pub extern "C" fn sym_append(page: &[u8], key: &[u8], value: &[u8], out: &mut [u8]) -> bool
+    ensures { λ r. ⌜ Edited (now (page .entry)) (now (out .entry)) r (IfItFits (withPair (pairs-of (now (page .entry))) (now (key .entry)) (now (value .entry))) (now (out .entry))) (now (out .exit)) ⌝ }
+{
+    let pairs = PairPage::read(page);
+    if !pairs.is_good() {
+        return false;
+    }
+    match append(&pairs, key, value, out) {
+        Ok(_) => true,
+        Err(_) => false,
+    }
 }
 
 #[unsafe(no_mangle)]
-pub extern "C" fn sym_keep(page: &[u8], bits: u32, low: u32, out: &mut [u8]) -> bool {
-    let page = PairPage::read(page);
-    page.is_good() && keep(&page, bits, low, out).is_ok()
+pub extern "C" fn sym_keep(page: &[u8], bits: u32, low: u32, out: &mut [u8]) -> bool
+    ensures { λ r. ⌜ Edited (now (page .entry)) (now (out .entry)) r (λ new. new ≡ written (falling bits low (pairs-of (now (page .entry))))) (now (out .exit)) ⌝ }
+{
+    let pairs = PairPage::read(page);
+    if !pairs.is_good() {
+        return false;
+    }
+    match keep(&pairs, bits, low, out) {
+        Ok(()) => true,
+        Err(_) => false,
+    }
 }

@@ -43,6 +43,7 @@ pub fn fingerprint(key: &[u8]) -> usize
 
 // What the code above these functions rests on: the laws of sameness, and that it is equality of bytes.
 pub fn key_laws() -> u8
+    ensures zero { λ r. ⌜ r ≡ 0 ⌝ }
     ensures laws { λ _. ⌜ Laws ⌝ }
     ensures bytes { λ _. ⌜ ByBytes ⌝ }
 {

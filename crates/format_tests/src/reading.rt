@@ -20,6 +20,18 @@ fn pairs() -> Result<(), Fail> {
 }
 
 #[test]
+fn key_ends() -> Result<(), Fail> {
+    let bytes = worked_page();
+    let page = PairPage::read(&bytes);
+    check_eq(page.key_end(0), 1024)?;
+    check_eq(page.key_end(1), 1021)?;
+    check_eq(page.key_end(2), 1020).note("the end of the free middle")?;
+    check_eq(page.key_end(usize::MAX), 1020)?;
+    check_eq(page.number_of(b"b"), Some(1))?;
+    check_eq(page.number_of(b"12"), None).note("a value is no key")
+}
+
+#[test]
 fn finds() -> Result<(), Fail> {
     let bytes = worked_page();
     let page = PairPage::read(&bytes);

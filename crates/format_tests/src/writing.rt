@@ -3,6 +3,7 @@ use crate::building::numbers;
 use crate::building::page_of;
 use crate::building::worked_page;
 use page_edits::append;
+use page_edits::fits;
 use page_edits::keep;
 use page_edits::without;
 use pages::PairPage;
@@ -54,6 +55,16 @@ fn room() -> Result<(), Fail> {
     let page = PairPage::read(&out);
     check_eq(page.pair(0), Some(((1016, 8), (16, 1000))))?;
     check_eq(page.pair(1), Some(((15, 1), (10, 5))))
+}
+
+#[test]
+fn fitting() -> Result<(), Fail> {
+    let bytes = page_of(&[2, 1016, 16], b"a name..");
+    let page = PairPage::read(&bytes);
+    check(fits(&page, b"b", b"12345"))?;
+    check(!fits(&page, b"b", b"123456"))?;
+    check(!fits(&page, b"", b"12345")).note("an empty key")?;
+    check(!fits(&page, b"a name..", b"")).note("a key that is there, and no room")
 }
 
 #[test]

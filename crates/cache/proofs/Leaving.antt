@@ -16,7 +16,7 @@ use Rattle.cache.specs.Whole.{at}
 use Rattle.cache.specs.declared.frames.Frame.{Frame}
 use Rattle.devices.specs.Meaning.{Meaning, put}
 use Rattle.devices.specs.Step.{Call, Step, Kept, Wrote, write}
-use Rattle.devices.specs.Trace.{Trace}
+use Rattle.devices.specs.Trace.{Account, Trace}
 use Rattle.faults.specs.declared.Fault.{Fault}
 use Rattle.std.proofs.shelf.Tests.{eq-eqb, ne-eqb, both-ways}
 use Rattle.std.specs.Vec.{made}
@@ -76,5 +76,5 @@ pub room-full : (q p : List Frame) (r : Result Unit Fault) → length q ≡ 8 �
 room-full q p (Ok _) h s = omega (arith, ap length s, length-drop 1 q)
 room-full q p (Err _) h s = tt
 
-pub room-calls-full : {S : Type 0} (did : S → Call → Result Unit Fault → S → Type 0) (M : S → Meaning) (q : List Frame) (d e : S) (r : Result Unit Fault) → length q ≡ 8 → Trace {X = Unit} did d (leaves (at q 0) (M d)) (Ok tt) r e → Trace {X = Unit} did d (room-calls q (M d)) (Ok tt) r e
+pub room-calls-full : {S : Type 0} (did : Account S) (M : S → Meaning) (q : List Frame) (d e : S) (r : Result Unit Fault) → length q ≡ 8 → Trace {X = Unit} did d (leaves (at q 0) (M d)) (Ok tt) r e → Trace {X = Unit} did d (room-calls q (M d)) (Ok tt) r e
 room-calls-full did M q d e r h t = subst (λ (b : Bool). Trace {X = Unit} did d (cond b (leaves (at q 0) (M d)) []) (Ok tt) r e) (sym (eq-eqb (length q) 8 h)) t

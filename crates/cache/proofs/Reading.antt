@@ -9,7 +9,7 @@ use Rattle.cache.specs.Shown.{cached}
 use Rattle.cache.specs.declared.frames.Frame.{Frame}
 use Rattle.devices.specs.Meaning.{Meaning}
 use Rattle.devices.specs.Step.{Call, Step, Filled, read}
-use Rattle.devices.specs.Trace.{Trace}
+use Rattle.devices.specs.Trace.{Account, Trace}
 use Rattle.faults.specs.declared.Fault.{Fault}
 use Rattle.std.proofs.shelf.Tests.{eq-eqb, lt-ltb}
 use Rattle.std.specs.declared.option.Option.{Option}
@@ -19,7 +19,7 @@ use Rattle.std.specs.declared.result.Result.the-variants.{Ok, Err}
 pub own-read-ok : (d : Meaning) (n size : ℕ) → size ≡ 1024 → n < d .limit → own-read d n size ≡ Ok tt
 own-read-ok d n size a b = let x = eq-eqb size 1024 a in let y = lt-ltb n (d .limit) b in simp (x, y)
 
-pub read-trace : {S : Type 0} (did : S → Call → Result Unit Fault → S → Type 0) (M : S → Meaning) (q : List Frame) (d e : S) (n size : ℕ) (o : Option ℕ) (r : Result Unit Fault) → own-read (M d) n size ≡ Ok tt → o ≡ visible q (M d) n → Trace {X = Unit} did d (fetches o n size) (Ok tt) r e → Trace did d (read-calls q (M d) n size) (own-read (M d) n size) r e
+pub read-trace : {S : Type 0} (did : Account S) (M : S → Meaning) (q : List Frame) (d e : S) (n size : ℕ) (o : Option ℕ) (r : Result Unit Fault) → own-read (M d) n size ≡ Ok tt → o ≡ visible q (M d) n → Trace {X = Unit} did d (fetches o n size) (Ok tt) r e → Trace did d (read-calls q (M d) n size) (own-read (M d) n size) r e
 read-trace did M q d e n size o r own at-o t =
     subst (λ (w : Result Unit Fault). Trace did d (accepted w (fetches (visible q (M d) n) n size)) w r e) (sym own)
     (subst (λ (w : Option ℕ). Trace {X = Unit} did d (fetches w n size) (Ok tt) r e) at-o t)

@@ -13,7 +13,7 @@ use Rattle.cache.specs.Shown.{shown, cached}
 use Rattle.cache.specs.declared.frames.Frame.{Frame}
 use Rattle.devices.specs.Meaning.{Meaning, put}
 use Rattle.devices.specs.Step.{Call, Kept, Wrote}
-use Rattle.devices.specs.Trace.{Trace}
+use Rattle.devices.specs.Trace.{Account, Trace}
 use Rattle.faults.specs.declared.Fault.{Fault}
 use Rattle.std.proofs.shelf.Tests.{eq-eqb, lt-ltb}
 use Rattle.std.specs.declared.option.Option.{Option}
@@ -36,7 +36,7 @@ wrote q p n bytes c e kept size range held s =
 pub own-ok : (d : Meaning) (n : ℕ) (bytes : List ℕ) → length bytes ≡ 1024 → n < d .limit → d .held n ≡ true → own-write d n bytes ≡ Ok tt
 own-ok d n bytes a b h = let x = eq-eqb (length bytes) 1024 a in let y = lt-ltb n (d .limit) b in simp (x, y, h)
 
-pub write-trace : {S : Type 0} (did : S → Call → Result Unit Fault → S → Type 0) (M : S → Meaning) (q : List Frame) (d e : S) (n : ℕ) (bytes : List ℕ) (o : Option ℕ) (r : Result Unit Fault) → own-write (M d) n bytes ≡ Ok tt → o ≡ newest q n → Trace {X = Unit} did d (stores q (M d) o) (Ok tt) r e → Trace did d (write-calls q (M d) n bytes) (own-write (M d) n bytes) r e
+pub write-trace : {S : Type 0} (did : Account S) (M : S → Meaning) (q : List Frame) (d e : S) (n : ℕ) (bytes : List ℕ) (o : Option ℕ) (r : Result Unit Fault) → own-write (M d) n bytes ≡ Ok tt → o ≡ newest q n → Trace {X = Unit} did d (stores q (M d) o) (Ok tt) r e → Trace did d (write-calls q (M d) n bytes) (own-write (M d) n bytes) r e
 write-trace did M q d e n bytes o r own at-o t =
     subst (λ (w : Result Unit Fault). Trace did d (accepted w (stores q (M d) (newest q n))) w r e) (sym own)
     (subst (λ (w : Option ℕ). Trace {X = Unit} did d (stores q (M d) w) (Ok tt) r e) at-o t)

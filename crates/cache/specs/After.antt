@@ -1,18 +1,21 @@
 -- The frames after each call.
-use Prim.Native.Nat.{ℕ, _-_}
+use Prim.Native.Nat.{ℕ, _-_, _<_}
 use lib.Dec.{eqb}
 use lib.ListN.{drop, length, set}
 use mathlib.Core.Bool.{cond}
 use mathlib.Core.List.{List, [], _∷_, _++_}
 use mathlib.Core.Logic.{_⊎_}
 use mathlib.Core.Path.{_≡_}
-use Rattle.cache.specs.Calls.{leaves}
+use Rattle.cache.specs.Calls.{leaves, room-calls}
 use Rattle.cache.specs.InUse.{newest}
+use Rattle.cache.specs.Shown.{Fails, cached}
+use Rattle.cache.specs.Whole.{at}
 use Rattle.cache.specs.declared.frames.Frame.{Frame}
 use Rattle.devices.specs.Meaning.{Meaning}
-use Rattle.devices.specs.Step.{Failed, flush}
+use Rattle.devices.specs.Step.{Failed, Kept, flush}
 use Rattle.devices.specs.Trace.{Account, Trace}
 use Rattle.faults.specs.declared.Fault.{Fault}
+use Rattle.std.specs.Vec.{made}
 use Rattle.std.specs.declared.option.Option.{Option}
 use Rattle.std.specs.declared.option.Option.the-variants.{Some, None}
 use Rattle.std.specs.declared.result.Result.{Result}
@@ -48,6 +51,20 @@ without (f ∷ fs) n = cond (eqb n (f .number)) (without fs n) (f ∷ without fs
 abbrev pub after-claim : List Frame → Meaning → ℕ → Result Unit Fault → List Frame
 after-claim fs d n (Ok _) = cond (d .held n) fs (without fs n)
 after-claim fs d n (Err _) = fs
+
+-- the oldest frame leaves
+pub record Evicted {S : Type 0} (did : Account S) (M : S → Meaning) (fs : List Frame) (d : S) (r : Result Unit Fault) (gs : List Frame) (e : S) : Type 0 where
+  pub below : Trace did d (leaves (at fs 0) (M d)) (Ok tt) r e
+  pub failed : Fails r (M e)
+  pub frames : gs ≡ popped fs r
+
+-- a frame is free, for which the oldest of eight leaves; the cache shows the same
+pub record MadeRoom {S : Type 0} (did : Account S) (M : S → Meaning) (fs : List Frame) (d : S) (r : Result Unit Fault) (gs : List Frame) (e : S) : Type 0 where
+  pub below : Trace did d (room-calls fs (M d)) (Ok tt) r e
+  pub failed : Fails r (M e)
+  pub frames : gs ≡ roomed fs r
+  pub room : made r (λ _. length gs < 8)
+  pub same : Kept (cached fs (M d)) (cached gs (M e))
 
 -- a flush frees each frame once it has left, the oldest first, and then flushes below; a refusal leaves the frame that
 -- was refused, and the younger ones

@@ -7,17 +7,14 @@ ghost use lib.ListN.{length};
 ghost use mathlib.Core.List.{[]};
 ghost use mathlib.Core.Path.{_≡_};
 ghost use Prim.Native.Nat.{_<_};
-ghost use Rattle.cache.specs.After.{Drained, popped, roomed};
-ghost use Rattle.cache.specs.Calls.{leaves, room-calls, visible};
+ghost use Rattle.cache.specs.After.{Drained, Evicted, MadeRoom};
+ghost use Rattle.cache.specs.Calls.{visible};
 ghost use Rattle.cache.specs.InUse.{inUse};
-ghost use Rattle.cache.specs.Shown.{Fails, Shows, cached, renamed};
+ghost use Rattle.cache.specs.Shown.{Shows, cached, renamed};
 ghost use Rattle.cache.specs.Told.{Told};
-ghost use Rattle.cache.specs.Whole.{at};
-ghost use Rattle.devices.specs.Step.{Kept, fault};
-ghost use Rattle.devices.specs.Trace.{Did, Trace};
+ghost use Rattle.devices.specs.Step.{fault};
+ghost use Rattle.devices.specs.Trace.{Did};
 ghost use Rattle.faults.specs.declared.Layer.the-variants.{Cache as Here};
-ghost use Rattle.std.specs.Vec.{made};
-ghost use Rattle.std.specs.declared.result.Result.the-variants.{Ok, Err};
 use devices::Device;
 use devices::ZeroUnheld;
 use faults::Fault;
@@ -58,11 +55,7 @@ impl<D: Device> Cache<D> {
 
     // Sees to it that a frame is free: the oldest of eight leaves.
     fn make_room(&mut self) -> Result<(), Fault>
-        ensures below { λ r. ⌜ Trace (Did (D·Device .steps) (D·Device .meaning)) (now (self .entry) .below) (room-calls (inUse (now (self .entry) .queue)) (D·Device .meaning (now (self .entry) .below))) (Ok tt) r (now (self .exit) .below) ⌝ }
-        ensures failed { λ r. ⌜ Fails r (D·Device .meaning (now (self .exit) .below)) ⌝ }
-        ensures frames { λ r. ⌜ inUse (now (self .exit) .queue) ≡ roomed (inUse (now (self .entry) .queue)) r ⌝ }
-        ensures room { λ r. ⌜ made r (λ _. length (inUse (now (self .exit) .queue)) < 8) ⌝ }
-        ensures same { λ r. ⌜ Kept (cached (inUse (now (self .entry) .queue)) (D·Device .meaning (now (self .entry) .below))) (cached (inUse (now (self .exit) .queue)) (D·Device .meaning (now (self .exit) .below))) ⌝ }
+        ensures { λ r. ⌜ MadeRoom (Did (D·Device .steps) (D·Device .meaning)) (D·Device .meaning) (inUse (now (self .entry) .queue)) (now (self .entry) .below) r (inUse (now (self .exit) .queue)) (now (self .exit) .below) ⌝ }
     {
         if self.queue.len() < 8 {
             return Ok(());
@@ -73,9 +66,7 @@ impl<D: Device> Cache<D> {
     // The oldest frame leaves: it is written below, or dropped where its number is not held there.
     fn evict(&mut self) -> Result<(), Fault>
         requires { ⌜ 0 < length (inUse (now self .queue)) ⌝ }
-        ensures below { λ r. ⌜ Trace (Did (D·Device .steps) (D·Device .meaning)) (now (self .entry) .below) (leaves (at (inUse (now (self .entry) .queue)) 0) (D·Device .meaning (now (self .entry) .below))) (Ok tt) r (now (self .exit) .below) ⌝ }
-        ensures failed { λ r. ⌜ Fails r (D·Device .meaning (now (self .exit) .below)) ⌝ }
-        ensures frames { λ r. ⌜ inUse (now (self .exit) .queue) ≡ popped (inUse (now (self .entry) .queue)) r ⌝ }
+        ensures { λ r. ⌜ Evicted (Did (D·Device .steps) (D·Device .meaning)) (D·Device .meaning) (inUse (now (self .entry) .queue)) (now (self .entry) .below) r (inUse (now (self .exit) .queue)) (now (self .exit) .below) ⌝ }
     {
         let oldest = self.queue.frame(0);
         if self.below.holds(oldest.number) {

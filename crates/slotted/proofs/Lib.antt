@@ -1,0 +1,5 @@
+pub mod Records
+pub mod Marks
+pub mod Puts
+pub mod Steps
+pub mod Tables

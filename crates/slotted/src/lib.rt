@@ -1,0 +1,3 @@
+// A page device whose blocks stand in numbered records.
+mod bytes;
+mod index;

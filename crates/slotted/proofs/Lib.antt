@@ -1,5 +1,9 @@
-pub mod Records
+pub mod Claims
+pub mod Images
 pub mod Marks
 pub mod Puts
+pub mod Records
+pub mod Same
 pub mod Steps
 pub mod Tables
+pub mod Writes

@@ -37,8 +37,8 @@ module _ (t e : Table) (u n limit many : ℕ) (ch : Changed t e u n) (good : goo
   used-above (suc k) l h =
       ⊎-elim
       (λ q.
-        let v : e .used k ≡ true = subst (λ (x : ℕ). e .used x ≡ true) (sym q) (ch .used-here) in
-        omega (arith, used-yes e k v, used-below k (omega arith)))
+      let v : e .used k ≡ true = subst (λ (x : ℕ). e .used x ≡ true) (sym q) (ch .used-here) in
+      omega (arith, used-yes e k v, used-below k (omega arith)))
       (λ q. omega (arith, used-not e k (is-not k (omega arith) (omega arith)), used-above k (omega arith) (omega arith)))
       (cases-eq k u)
 
@@ -60,8 +60,8 @@ module _ (t e : Table) (u n limit many : ℕ) (ch : Changed t e u n) (good : goo
   slot-new (suc k) l h =
       ⊎-elim
       (λ q.
-        slot-here e n k (subst (λ (x : ℕ). e .used x ≡ true) (sym q) (ch .used-here)) (subst (λ (x : ℕ). e .number x ≡ n) (sym q) (ch .number-here))
-        ∙ ap suc q)
+      slot-here e n k (subst (λ (x : ℕ). e .used x ≡ true) (sym q) (ch .used-here)) (subst (λ (x : ℕ). e .number x ≡ n) (sym q) (ch .number-here))
+      ∙ ap suc q)
       (λ q. slot-unused e n k (is-not k (omega arith) (omega arith)) ∙ slot-new k (omega arith) (omega arith))
       (cases-eq k u)
 
@@ -72,9 +72,9 @@ module _ (t e : Table) (u n limit many : ℕ) (ch : Changed t e u n) (good : goo
       let ih = slot-old x ne k (omega arith) in
       ⊎-elim
       (λ q.
-        slot-other e x k (λ a. ne (sym a ∙ subst (λ (y : ℕ). e .number y ≡ n) (sym q) (ch .number-here)))
-        ∙ ih
-        ∙ sym (slot-unused t x k (was-not k (omega arith) (omega arith))))
+      slot-other e x k (λ a. ne (sym a ∙ subst (λ (y : ℕ). e .number y ≡ n) (sym q) (ch .number-here)))
+      ∙ ih
+      ∙ sym (slot-unused t x k (was-not k (omega arith) (omega arith))))
       (⊎-elim
       (λ q. slot-below x (suc k) q)
       (λ q. slot-unused e x k (is-not k q (omega arith)) ∙ ih ∙ sym (slot-unused t x k (was-not k (omega arith) (omega arith)))))
@@ -85,18 +85,18 @@ module _ (t e : Table) (u n limit many : ℕ) (ch : Changed t e u n) (good : goo
       all-good e limit many .1
       (λ k h. ⊎-elim
       (λ q.
-        subst (λ (x : ℕ). goodAt e limit x ≡ true) (sym q)
-        (used-good e limit u (ch .used-here) (used-below u (omega arith)) (omega (arith, ch .number-here))
-        (ap (λ (x : ℕ). slotTo e x u) (ch .number-here) ∙ slot-below n u (omega arith) ∙ slot-shorter t n many u none (omega arith))))
+      subst (λ (x : ℕ). goodAt e limit x ≡ true) (sym q)
+      (used-good e limit u (ch .used-here) (used-below u (omega arith)) (omega (arith, ch .number-here))
+      (ap (λ (x : ℕ). slotTo e x u) (ch .number-here) ∙ slot-below n u (omega arith) ∙ slot-shorter t n many u none (omega arith))))
       (⊎-elim
       (λ q.
-        let ne : k ≡ u → ⊥ = λ a. omega arith in
-        let v = was-used k q in
-        let g = good-used t limit k (all-good t limit many .0 good k h) v in
-        let r = ch .number-there k ne in
-        used-good e limit k (ch .used-there k ne ∙ v) (used-below k (omega arith)) (omega (arith, r, g .1))
-        (ap (λ (x : ℕ). slotTo e x k) r ∙ slot-below (t .number k) k (omega arith) ∙ g .2))
+      let ne : k ≡ u → ⊥ = λ a. omega arith in
+      let v = was-used k q in
+      let g = good-used t limit k (all-good t limit many .0 good k h) v in
+      let r = ch .number-there k ne in
+      used-good e limit k (ch .used-there k ne ∙ v) (used-below k (omega arith)) (omega (arith, r, g .1))
+      (ap (λ (x : ℕ). slotTo e x k) r ∙ slot-below (t .number k) k (omega arith) ∙ g .2))
       (λ q.
-        free-good e limit k (is-not k q h)
-        (ch .free-there k (λ a. omega arith) ∙ good-free t limit k (all-good t limit many .0 good k h) (was-not k (omega arith) h))))
+      free-good e limit k (is-not k q h)
+      (ch .free-there k (λ a. omega arith) ∙ good-free t limit k (all-good t limit many .0 good k h) (was-not k (omega arith) h))))
       (cases-order k u))

@@ -16,6 +16,9 @@ use Rattle.std.proofs.shelf.Lists.{length-drop, length-replicate, length-take}
 use Rattle.std.proofs.shelf.Tests.{and-from, and-parts, both-ways, cases-bool, cases-eq, cases-lt, cond-false, cond-true, eq-eqb, eqb-true, le-leb, leb-true, ne-eqb, not-from-false, not-from-true, not-true, not-false}
 use Rattle.std.specs.Orderings.{Decides}
 
+pub never : {P : Type 0} (b : Bool) → b ≡ true → b ≡ false → P
+never b t f = let z : ⊥ = both-ways b f t in elim z [ ]
+
 module _ (s : List ℕ) where
   pub formed-parts : wellFormed s ≡ true → (1030 * records s ≡ length s) × (records s ≤ 65544) × (goodTo (tableOf s) 65544 (records s) ≡ true)
   unfolding wellFormed
@@ -88,8 +91,8 @@ module _ (s : List ℕ) where
   slot-inside n k e =
       ⊎-elim
       (λ w.
-        let r = slot-found (tableOf s) n (records s) k (sym (slot-yes w n) ∙ e) in
-        omega (arith, r .0, formed-parts w .0))
+      let r = slot-found (tableOf s) n (records s) k (sym (slot-yes w n) ∙ e) in
+      omega (arith, r .0, formed-parts w .0))
       (λ w. let z : ⊥ = omega (arith, slot-not w n) in elim z [ ])
       (cases-bool (wellFormed s))
 
@@ -121,8 +124,8 @@ module _ (s : List ℕ) where
       ⊎-elim
       (λ e. ap (λ (x : ℕ). length (blockOf s x)) e ∙ ap length block-none ∙ length-replicate {A = ℕ} 1024 0)
       (λ p.
-        let inside = slot-inside n (p .0) (p .1) in
-        ap (λ (x : ℕ). length (blockOf s x)) (p .1) ∙ ap length (block-some (p .0)) ∙ simp (length-take, length-drop) (omega arith))
+      let inside = slot-inside n (p .0) (p .1) in
+      ap (λ (x : ℕ). length (blockOf s x)) (p .1) ∙ ap length (block-some (p .0)) ∙ simp (length-take, length-drop) (omega arith))
       (zero-or (slotIn s n))
 
   pub sound-of : Sound (meaningOf s)

@@ -24,9 +24,9 @@ pub slot-apart : (s : List ℕ) (m n k : ℕ) → slotIn s m ≡ suc k → slotI
 slot-apart s m n k a b =
     ⊎-elim
     (λ w.
-      let p = slot-found (tableOf s) m (records s) k (sym (slot-yes s w m) ∙ a) in
-      let q = slot-found (tableOf s) n (records s) k (sym (slot-yes s w n) ∙ b) in
-      sym (p .2) ∙ q .2)
+    let p = slot-found (tableOf s) m (records s) k (sym (slot-yes s w m) ∙ a) in
+    let q = slot-found (tableOf s) n (records s) k (sym (slot-yes s w n) ∙ b) in
+    sym (p .2) ∙ q .2)
     (λ w. let z : ⊥ = omega (arith, slot-not s w m) in elim z [ ])
     (cases-bool (wellFormed s))
 
@@ -81,14 +81,14 @@ module _ (s : List ℕ) (k : ℕ) (bs : List ℕ) (full : length bs ≡ 1024) (i
         let e = same-slot s new write-length write-table m in
         ⊎-elim
         (λ q.
-          ap (blockOf new) (e ∙ ap (slotIn s) q ∙ slot) ∙ block-here ∙ sym (cond-true (eqb m n) bs (blockIn s m) (eq-eqb m n q)))
+        ap (blockOf new) (e ∙ ap (slotIn s) q ∙ slot) ∙ block-here ∙ sym (cond-true (eqb m n) bs (blockIn s m) (eq-eqb m n q)))
         (λ q.
-          ap (blockOf new) e
-          ∙ ⊎-elim
-          (λ z. ap (blockOf new) z ∙ block-none new ∙ sym (block-none s) ∙ sym (ap (blockOf s) z))
-          (λ p. ap (blockOf new) (p .1) ∙ block-there (p .0) (λ a. q (slot-apart s m n k (p .1 ∙ ap suc a) slot)) ∙ sym (ap (blockOf s) (p .1)))
-          (zero-or (slotIn s m))
-          ∙ sym (cond-false (eqb m n) bs (blockIn s m) (ne-eqb m n q)))
+        ap (blockOf new) e
+        ∙ ⊎-elim
+        (λ z. ap (blockOf new) z ∙ block-none new ∙ sym (block-none s) ∙ sym (ap (blockOf s) z))
+        (λ p. ap (blockOf new) (p .1) ∙ block-there (p .0) (λ a. q (slot-apart s m n k (p .1 ∙ ap suc a) slot)) ∙ sym (ap (blockOf s) (p .1)))
+        (zero-or (slotIn s m))
+        ∙ sym (cond-false (eqb m n) bs (blockIn s m) (ne-eqb m n q)))
         (cases-eq m n)
 
     pub wrote : Wrote (meaningOf s) n bs (meaningOf new)
@@ -101,5 +101,5 @@ module _ (s : List ℕ) (k : ℕ) (bs : List ℕ) (full : length bs ≡ 1024) (i
           was-held = held;
           held = same-held s new write-length write-table;
           left = same-left s new write-length write-table;
-          block = fun-ext block-at
+          block = fun-ext block-at;
         }

@@ -1,9 +1,19 @@
 ghost use Prim.Native.Nat.{_+_, _*_, _<_, _≤_};
+ghost use lib.Dec.{eqb};
 ghost use lib.ListN.{getD, length};
+ghost use mathlib.Core.Bool.{not};
 ghost use mathlib.Core.Path.{_≡_};
 ghost use Rattle.slotted.specs.Records.{records, tableOf};
 ghost use Rattle.slotted.specs.Table.{Entered, Listed, Scanned, usedTo};
 use crate::bytes::*;
+
+// Whether a number has a record already.
+fn known(index: &[u32], n: usize) -> bool
+    requires { ⌜ n < length (now index) ⌝ }
+    ensures { λ r. ⌜ r ≡ not (eqb (getD (now (index .entry)) n 0) 0) ⌝ }
+{
+    index[n] != 0
+}
 
 // Looks at record k: the number of used records so far, or nothing where the record is not good. The index, from block
 // numbers to records, has one more than the record of a number, and 0 for a number that no record before this one has.
@@ -19,7 +29,7 @@ fn enter(bytes: &[u8], index: &mut [u32], k: usize, used: usize) -> Option<usize
         return if blank(bytes, at) { Some(used) } else { None };
     }
     let n = get32(bytes, at + 2) as usize;
-    if used != k || n >= index.len() || index[n] != 0 {
+    if used != k || n >= index.len() || known(index, n) {
         return None;
     }
     index[n] = k as u32 + 1;

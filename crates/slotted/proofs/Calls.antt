@@ -57,6 +57,10 @@ module _ (s : List ℕ) (k : ℕ) (bs t : List ℕ) (full : length bs ≡ 1024) 
         subst (λ (x : List ℕ). Step (meaningOf s) (write n bs) (Ok tt) (meaningOf x)) (sym e) law,
       )
 
+-- the bytes after a record is put, read through what held them meanwhile
+pub took : (n u : ℕ) (s t last x : List ℕ) → t ≡ last → last ≡ put x (1030 * u) (fresh n) → x ≡ s → u ≡ usedIn s → t ≡ put s (1030 * usedIn s) (fresh n)
+took n u s t last x a b c d = a ∙ b ∙ ap (λ (y : List ℕ). put y (1030 * u) (fresh n)) c ∙ ap (λ (v : ℕ). put s (1030 * v) (fresh n)) d
+
 module _ (s : List ℕ) (n : ℕ) (low : n < limitIn s) (none : slotIn s n ≡ 0) (free : 0 < leftIn s) where
   abbrev new : List ℕ
   new = put s (1030 * usedIn s) (fresh n)

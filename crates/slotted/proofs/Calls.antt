@@ -1,17 +1,16 @@
 -- The accepted calls that change the bytes: the account of the bytes, and the law.
-use Prim.Native.Nat.{ℕ, zero, suc, _+_, _*_, _<_, _≤_}
+use Prim.Native.Nat.{ℕ, suc, _+_, _*_, _<_, _≤_}
 use lib.ListN.{length, getD, set}
-use mathlib.Core.Bool.{Bool, true, false, cond}
 use mathlib.Core.List.{List}
-use mathlib.Core.Logic.{_⊎_, inl, inr, ⊎-elim}
-use mathlib.Core.Path.{_≡_, refl, sym, ap, subst, _∙_}
+use mathlib.Core.Logic.{⊎-elim}
+use mathlib.Core.Path.{_≡_, sym, ap, subst, _∙_}
 use native.Mathlib.Numerals.{add-one}
 use native.Mathlib.Omega.{arith}
 use Rattle.devices.specs.Step.{Step, claim, write}
 use Rattle.slotted.proofs.Images.{below-formed, formed-parts, slot-inside, slot-not, slot-unheld, slot-yes}
 use Rattle.slotted.proofs.Same.{same-left, same-limit, same-slot, same-used}
 use Rattle.slotted.proofs.Tables.{slot-found, zero-or}
-use Rattle.slotted.proofs.Takes.{at-inside, claimed-new, first-free, slot-kept, slot-taken, take-left, take-limit, take-used}
+use Rattle.slotted.proofs.Takes.{at-inside, claimed-new, first-free, slot-kept, slot-taken, take-limit}
 use Rattle.slotted.proofs.Writes.{write-length, write-table, wrote}
 use Rattle.slotted.specs.Account.{Bytewise, written}
 use Rattle.slotted.specs.Bytes.{put}
@@ -19,7 +18,7 @@ use Rattle.slotted.specs.Image.{heldIn, leftIn, limitIn, meaningOf, slotIn, us
 use Rattle.slotted.specs.Records.{fresh, records, tableOf}
 use Rattle.std.proofs.shelf.Lists.{getD-set-other, getD-set-same}
 use Rattle.std.proofs.shelf.Tests.{cases-bool, cases-eq, cond-false}
-use Rattle.std.specs.declared.result.Result.the-variants.{Ok, Err}
+use Rattle.std.specs.declared.result.Result.the-variants.{Ok}
 
 pub slot-few : (s : List ℕ) (n : ℕ) → slotIn s n ≤ 65544
 slot-few s n =
@@ -57,6 +56,10 @@ module _ (s : List ℕ) (k : ℕ) (bs t : List ℕ) (full : length bs ≡ 1024) 
         (e ∙ sym (ap (λ (x : ℕ). written s x bs) slot), tt),
         subst (λ (x : List ℕ). Step (meaningOf s) (write n bs) (Ok tt) (meaningOf x)) (sym e) law,
       )
+
+-- the bytes after a record is put, read through what held them meanwhile
+pub took : (n u : ℕ) (s t last x : List ℕ) → t ≡ last → last ≡ put x (1030 * u) (fresh n) → x ≡ s → u ≡ usedIn s → t ≡ put s (1030 * usedIn s) (fresh n)
+took n u s t last x a b c d = a ∙ b ∙ ap (λ (y : List ℕ). put y (1030 * u) (fresh n)) c ∙ ap (λ (v : ℕ). put s (1030 * v) (fresh n)) d
 
 module _ (s : List ℕ) (n : ℕ) (low : n < limitIn s) (none : slotIn s n ≡ 0) (free : 0 < leftIn s) where
   abbrev new : List ℕ

@@ -1,12 +1,12 @@
 -- A table in which the first record that was not used becomes used, with a new number.
 use Prim.Native.Nat.{ℕ, zero, suc, _+_, _<_, _≤_}
-use mathlib.Core.Bool.{Bool, true, false}
-use mathlib.Core.Logic.{_⊎_, inl, inr, ⊎-elim}
-use mathlib.Core.Path.{_≡_, refl, sym, ap, subst, _∙_}
+use mathlib.Core.Bool.{true, false}
+use mathlib.Core.Logic.{⊎-elim}
+use mathlib.Core.Path.{_≡_, sym, ap, subst, _∙_}
 use native.Mathlib.Omega.{arith}
-use Rattle.slotted.proofs.Tables.{all-good, first-used, free-good, good-free, good-used, rest-unused, slot-here, slot-other, slot-shorter, slot-start, slot-unused, used-full, used-good, used-none, used-not, used-yes}
+use Rattle.slotted.proofs.Tables.{all-good, first-used, free-good, good-free, good-used, rest-unused, slot-here, slot-other, slot-shorter, slot-start, slot-unused, used-full, used-good, used-not, used-yes}
 use Rattle.slotted.specs.Table.{Table, goodAt, goodTo, slotTo, usedTo}
-use Rattle.std.proofs.shelf.Tests.{cases-bool, cases-eq, cases-order}
+use Rattle.std.proofs.shelf.Tests.{cases-eq, cases-order}
 
 -- t with another record at u
 pub record Changed (t e : Table) (u n : ℕ) : Type 0 where

@@ -1,19 +1,19 @@
 -- What bytes mean, by cases of whether they are well-formed.
-use Prim.Native.Nat.{ℕ, zero, suc, _+_, _-_, _*_, _<_, _≤_}
+use Prim.Native.Nat.{ℕ, suc, _+_, _-_, _*_, _<_, _≤_}
 use lib.Dec.{eqb, leb}
-use lib.ListN.{length, getD, take, drop, replicate}
-use mathlib.Core.Bool.{Bool, true, false, cond, not, _&&_}
+use lib.ListN.{length, take, drop, replicate}
+use mathlib.Core.Bool.{Bool, true, false, _&&_}
 use mathlib.Core.List.{List}
-use mathlib.Core.Logic.{_⊎_, inl, inr, ⊎-elim}
-use mathlib.Core.Path.{_≡_, refl, sym, ap, subst, _∙_}
+use mathlib.Core.Logic.{⊎-elim}
+use mathlib.Core.Path.{_≡_, refl, sym, ap, _∙_}
 use native.Mathlib.Omega.{arith}
-use Rattle.devices.specs.Meaning.{Meaning, Sound, Zeroed}
-use Rattle.slotted.proofs.Tables.{good-rules, rules-good, slot-found, slot-past, used-le, zero-or}
+use Rattle.devices.specs.Meaning.{Sound, Zeroed}
+use Rattle.slotted.proofs.Tables.{good-rules, rules-good, slot-found, slot-past, zero-or}
 use Rattle.slotted.specs.Image.{WellFormed, blockIn, blockOf, heldIn, leftIn, limitIn, meaningOf, slotIn, usedIn, wellFormed}
 use Rattle.slotted.specs.Records.{blockAt, records, tableOf}
 use Rattle.slotted.specs.Table.{goodTo, slotTo, usedTo}
 use Rattle.std.proofs.shelf.Lists.{length-drop, length-replicate, length-take}
-use Rattle.std.proofs.shelf.Tests.{and-from, and-parts, both-ways, cases-bool, cases-eq, cases-lt, cond-false, cond-true, eq-eqb, eqb-true, le-leb, leb-true, ne-eqb, not-from-false, not-from-true, not-true, not-false}
+use Rattle.std.proofs.shelf.Tests.{and-from, and-parts, both-ways, cases-bool, cases-lt, cond-false, cond-true, eq-eqb, eqb-true, le-leb, leb-true, ne-eqb, not-from-false, not-from-true, not-true, not-false}
 use Rattle.std.specs.Orderings.{Decides}
 
 pub never : {P : Type 0} (b : Bool) → b ≡ true → b ≡ false → P

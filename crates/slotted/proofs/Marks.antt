@@ -1,13 +1,12 @@
 -- The mark as a part of the bytes.
-use Prim.Native.Nat.{ℕ, zero, suc, _+_, _<_, _≤_}
+use Prim.Native.Nat.{ℕ, _+_, _≤_}
 use lib.Dec.{eqb}
 use lib.ListN.{length, getD, take, drop}
-use mathlib.Core.Bool.{Bool, true, _&&_}
 use mathlib.Core.List.{List, [], _∷_}
-use mathlib.Core.Path.{_≡_, refl, sym, ap, _∙_}
+use mathlib.Core.Path.{_≡_, ap, _∙_}
 use native.Mathlib.Omega.{arith}
 use Rattle.slotted.specs.Records.{markedAt}
-use Rattle.std.proofs.shelf.Lists.{drop-more, drop-drop}
+use Rattle.std.proofs.shelf.Lists.{drop-more}
 use Rattle.std.proofs.shelf.Ways.{decides-and, decides-eqb, decides-like}
 use Rattle.std.specs.Orderings.{Decides}
 

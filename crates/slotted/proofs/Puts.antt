@@ -1,15 +1,12 @@
 -- What a write leaves.
-use borrow.Author.Needs.{needs}
-use Prim.Native.Nat.{ℕ, zero, suc, _+_, _-_, _<_, _≤_}
+use Prim.Native.Nat.{ℕ, _+_, _-_, _<_, _≤_}
 use lib.ListN.{length, getD, take, drop}
-use mathlib.Core.List.{List, [], _∷_, _++_}
+use mathlib.Core.List.{List, _++_}
 use mathlib.Core.Logic.{_⊎_, inl, inr, ⊎-elim}
-use mathlib.Core.Path.{_≡_, refl, sym, ap, subst, _∙_}
+use mathlib.Core.Path.{_≡_, refl, sym, ap, _∙_}
 use native.Mathlib.Omega.{arith}
 use Rattle.slotted.specs.Bytes.{put}
-use Rattle.std.proofs.shelf.Lists.{append-assoc, drop-at, drop-append-le, drop-drop, getD-append-left, getD-append-right, getD-drop, getD-take, length-append, length-drop, length-take, length-take-le, places, same-lists, take-append-drop, take-append-le, take-at}
-use Rattle.std.proofs.shelf.Parts.{overwrites}
-use Rattle.std.proofs.shelf.Tests.{cases-lt}
+use Rattle.std.proofs.shelf.Lists.{append-assoc, drop-at, drop-drop, getD-append-left, getD-append-right, getD-drop, getD-take, length-append, length-drop, length-take, length-take-le, same-lists, take-at}
 
 module _ (s : List ℕ) (i : ℕ) (bs : List ℕ) (room : i + length bs ≤ length s) where
   head : length (take i s) ≡ i

@@ -1,12 +1,12 @@
 -- Bytes whose records say the same, whatever their blocks are.
-use Prim.Native.Nat.{ℕ, zero, suc, _+_, _-_, _*_, _/_, _<_, _≤_}
+use Prim.Native.Nat.{ℕ, _-_, _*_, _/_}
 use lib.Dec.{eqb, leb}
-use lib.ListN.{length, getD, take, drop}
-use mathlib.Core.Bool.{Bool, true, false, cond, not, _&&_}
+use lib.ListN.{length}
+use mathlib.Core.Bool.{Bool, cond, not, _&&_}
 use mathlib.Core.List.{List}
-use mathlib.Core.Path.{_≡_, refl, sym, ap, ap₂, subst, _∙_, fun-ext}
+use mathlib.Core.Path.{_≡_, ap, _∙_, fun-ext}
 use Rattle.slotted.specs.Image.{heldIn, leftIn, limitIn, slotIn, usedIn, wellFormed}
-use Rattle.slotted.specs.Records.{freeAt, markedAt, numberAt, records, tableOf, usedAt}
+use Rattle.slotted.specs.Records.{tableOf}
 use Rattle.slotted.specs.Table.{Table, goodTo, slotTo, usedTo}
 
 pub same-table : (t e : Table) → ((k : ℕ) → e .used k ≡ t .used k) → ((k : ℕ) → e .free k ≡ t .free k) → ((k : ℕ) → e .number k ≡ t .number k) → e ≡ t

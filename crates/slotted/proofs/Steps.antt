@@ -1,14 +1,14 @@
 -- One record more: what the index and the count become.
-use Prim.Native.Nat.{ℕ, zero, suc, _+_, _<_, _≤_}
+use Prim.Native.Nat.{ℕ, suc, _+_, _<_}
 use lib.ListN.{length, getD, set}
-use mathlib.Core.Bool.{Bool, true, false}
+use mathlib.Core.Bool.{true, false}
 use mathlib.Core.List.{List}
-use mathlib.Core.Logic.{_⊎_, inl, inr, ⊎-elim}
-use mathlib.Core.Path.{_≡_, refl, sym, ap, subst, _∙_}
+use mathlib.Core.Logic.{⊎-elim}
+use mathlib.Core.Path.{_≡_, refl, sym, ap, _∙_}
 use native.Mathlib.Numerals.{add-one}
 use native.Mathlib.Omega.{arith}
-use Rattle.slotted.proofs.Tables.{free-bad, free-good, good-more, good-not, slot-here, slot-other, slot-unused, used-bad, used-good, used-not, used-yes}
-use Rattle.slotted.specs.Table.{Table, Entered, Listed, Scanned, goodAt, goodTo, slotTo, usedTo}
+use Rattle.slotted.proofs.Tables.{free-good, good-more, slot-here, slot-other, slot-unused, used-bad, used-good, used-not, used-yes}
+use Rattle.slotted.specs.Table.{Table, Entered, Listed, goodAt, goodTo, slotTo, usedTo}
 use Rattle.std.proofs.shelf.Lists.{getD-set-other, getD-set-same, length-set}
 use Rattle.std.proofs.shelf.Tests.{cases-eq}
 use Rattle.std.specs.declared.option.Option.the-variants.{Some, None}

@@ -1,11 +1,11 @@
-use Prim.Native.Nat.{ℕ, zero, suc, _+_, _<_, _≤_}
+use Prim.Native.Nat.{ℕ, zero, suc, _<_, _≤_}
 use lib.Dec.{eqb, ltb}
-use mathlib.Core.Bool.{Bool, true, false, cond, _&&_}
+use mathlib.Core.Bool.{true, false, _&&_}
 use mathlib.Core.Logic.{_⊎_, inl, inr, ⊎-elim}
 use mathlib.Core.Path.{_≡_, refl, sym, ap, subst, _∙_}
 use native.Mathlib.Omega.{arith}
 use Rattle.slotted.specs.Table.{Table, Good, goodAt, goodTo, slotTo, usedTo}
-use Rattle.std.proofs.shelf.Tests.{and-from, and-left, and-parts, and-right, both-ways, cases-bool, cases-eq, cases-lt, cond-both, cond-false, cond-true, eq-eqb, eqb-true, lt-ltb, ltb-true, ne-eqb}
+use Rattle.std.proofs.shelf.Tests.{and-from, and-left, and-parts, and-right, both-ways, cases-bool, cases-eq, cond-false, cond-true, eq-eqb, eqb-true, lt-ltb, ltb-true, ne-eqb}
 use Rattle.std.proofs.shelf.Ways.{decides-below-and}
 use Rattle.std.specs.Orderings.{Decides}
 

@@ -1,11 +1,11 @@
 -- The first free record, used up by a claim.
-use Prim.Native.Nat.{ℕ, zero, suc, _+_, _-_, _*_, _/_, _%_, _<_, _≤_}
+use Prim.Native.Nat.{ℕ, suc, _+_, _-_, _*_, _/_, _%_, _<_, _≤_}
 use lib.Dec.{eqb}
 use lib.ListN.{length, getD, take, drop, replicate}
-use mathlib.Core.Bool.{Bool, true, false, cond, not, _&&_}
+use mathlib.Core.Bool.{true, false, not}
 use mathlib.Core.List.{List}
 use mathlib.Core.Logic.{_⊎_, inl, inr, ⊎-elim}
-use mathlib.Core.Path.{_≡_, refl, sym, ap, ap₂, subst, _∙_, fun-ext}
+use mathlib.Core.Path.{_≡_, refl, sym, ap, subst, _∙_, fun-ext}
 use native.Mathlib.Nat.{div-div-eq-div-mul}
 use native.Mathlib.Omega.{arith}
 use Rattle.devices.specs.Meaning as meaning
@@ -16,12 +16,12 @@ use Rattle.slotted.proofs.Puts.{length-put, part-apart, part-within, put-apart
 use Rattle.slotted.proofs.Tables.{all-good, first-used, good-free, rest-unused, slot-found, zero-or}
 use Rattle.slotted.proofs.Writes.{head-same}
 use Rattle.slotted.specs.Account.{FirstFree}
-use Rattle.slotted.specs.Bytes.{put, word, le4}
+use Rattle.slotted.specs.Bytes.{put}
 use Rattle.slotted.specs.Image.{blockIn, blockOf, heldIn, leftIn, limitIn, meaningOf, slotIn, usedIn, wellFormed}
-use Rattle.slotted.specs.Records.{blankAt, fresh, freeAt, markedAt, numberAt, records, tableOf, usedAt}
+use Rattle.slotted.specs.Records.{fresh, freeAt, numberAt, records, tableOf, usedAt}
 use Rattle.slotted.specs.Table.{goodTo, slotTo, usedTo}
-use Rattle.std.proofs.shelf.Lists.{length-append, length-replicate, take-all}
-use Rattle.std.proofs.shelf.Tests.{and-from, both-ways, cases-bool, cases-eq, cases-lt, cond-false, cond-true, eq-eqb, ne-eqb}
+use Rattle.std.proofs.shelf.Lists.{length-replicate, take-all}
+use Rattle.std.proofs.shelf.Tests.{and-from, both-ways, cases-eq, cond-false, cond-true, eq-eqb, ne-eqb}
 
 pub fresh-length : (n : ℕ) → length (fresh n) ≡ 1030
 unfolding fresh

@@ -1,21 +1,21 @@
 -- A block written over that of record k.
-use Prim.Native.Nat.{ℕ, zero, suc, _+_, _-_, _*_, _/_, _<_, _≤_}
+use Prim.Native.Nat.{ℕ, suc, _+_, _*_, _<_, _≤_}
 use lib.Dec.{eqb}
 use lib.ListN.{length, getD, take, drop}
-use mathlib.Core.Bool.{Bool, true, false, cond, not, _&&_}
+use mathlib.Core.Bool.{true}
 use mathlib.Core.List.{List}
-use mathlib.Core.Logic.{_⊎_, inl, inr, ⊎-elim}
-use mathlib.Core.Path.{_≡_, refl, sym, ap, ap₂, subst, _∙_, fun-ext}
+use mathlib.Core.Logic.{inl, inr, ⊎-elim}
+use mathlib.Core.Path.{_≡_, refl, sym, ap, _∙_, fun-ext}
 use native.Mathlib.Omega.{arith}
 use Rattle.devices.specs.Meaning as meaning
 use Rattle.devices.specs.Step.{Wrote}
-use Rattle.slotted.proofs.Images.{block-none, block-some, formed-parts, held-inside, slot-held, slot-not, slot-yes}
+use Rattle.slotted.proofs.Images.{block-none, block-some, held-inside, slot-held, slot-not, slot-yes}
 use Rattle.slotted.proofs.Puts.{length-put, part-apart, part-within, put-apart}
-use Rattle.slotted.proofs.Same.{same-formed, same-held, same-left, same-limit, same-slot, same-table}
+use Rattle.slotted.proofs.Same.{same-held, same-left, same-limit, same-slot, same-table}
 use Rattle.slotted.proofs.Tables.{slot-found, zero-or}
-use Rattle.slotted.specs.Bytes.{put, word}
+use Rattle.slotted.specs.Bytes.{put}
 use Rattle.slotted.specs.Image.{blockIn, blockOf, heldIn, meaningOf, slotIn, wellFormed}
-use Rattle.slotted.specs.Records.{blankAt, freeAt, markedAt, numberAt, records, tableOf, usedAt}
+use Rattle.slotted.specs.Records.{freeAt, numberAt, records, tableOf, usedAt}
 use Rattle.std.proofs.shelf.Lists.{take-all}
 use Rattle.std.proofs.shelf.Tests.{cases-bool, cases-eq, cases-lt, cond-false, cond-true, eq-eqb, ne-eqb}
 

@@ -1,9 +1,9 @@
 -- Bytes as records of 1,030 bytes: a mark of two bytes, a number of four, a block of 1,024.
-use Prim.Native.Nat.{ℕ, zero, suc, _+_, _*_, _/_}
+use Prim.Native.Nat.{ℕ, _+_, _*_, _/_}
 use lib.Dec.{eqb}
 use lib.ListN.{length, getD, take, drop, replicate}
-use mathlib.Core.Bool.{Bool, true, false, cond, _&&_}
-use mathlib.Core.List.{List, [], _∷_, _++_}
+use mathlib.Core.Bool.{Bool, _&&_}
+use mathlib.Core.List.{List, _∷_, _++_}
 use Rattle.slotted.specs.Bytes.{word, le4}
 use Rattle.slotted.specs.Table.{Table}
 

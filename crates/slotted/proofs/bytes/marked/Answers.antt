@@ -1,8 +1,7 @@
 use borrow.Author.Needs.{needs}
 use lib.ListN.{take, drop}
-use mathlib.Core.List.{List, [], _∷_}
+use mathlib.Core.List.{[], _∷_}
 use mathlib.Core.Path.{_≡_}
-use Prim.Native.Nat.{ℕ}
 use Rattle.slotted.proofs.bytes.marked.Needs as need
 use Rattle.slotted.proofs.Marks.{mark-tells}
 use Rattle.slotted.specs.Records.{markedAt}

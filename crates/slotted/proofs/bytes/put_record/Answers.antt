@@ -1,8 +1,7 @@
 use borrow.Author.Needs.{needs}
-use Prim.Native.Nat.{ℕ, _+_, _-_}
-use lib.ListN.{length, replicate}
-use mathlib.Core.List.{List, [], _∷_, _++_}
-use mathlib.Core.Path.{_≡_, refl, sym, ap, _∙_}
+use Prim.Native.Nat.{ℕ, _+_}
+use mathlib.Core.List.{List}
+use mathlib.Core.Path.{_≡_, ap, _∙_}
 use native.Mathlib.Omega.{arith}
 use Rattle.slotted.proofs.bytes.put_record.Needs as need
 use Rattle.slotted.specs.Bytes.{put, le4}
@@ -14,4 +13,4 @@ returns c =
     record-parts (c .args .bytes .now) (c .args .at) (c .args .n) (c .pre)
     (c .put-bytes .last .bytes) (c .put-bytes .ensures)
     (c .put-bytes-2 .last .bytes) (c .put-bytes-2 .ensures ∙ ap (λ (l : List ℕ). put (c .put-bytes .last .bytes) (c .args .at + 2) l) e)
-    (c .clear .last .bytes) (c .clear .ensures)
+    (c .clear .last .bytes) _ (c .clear .ensures) (omega arith)

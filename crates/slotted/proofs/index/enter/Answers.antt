@@ -1,9 +1,6 @@
-use borrow.Author.Needs.{needs}
-use Prim.Native.Nat.{ℕ, _+_, _*_}
 use lib.Dec.{eqb}
 use lib.ListN.{getD}
-use mathlib.Core.Bool.{true, false}
-use mathlib.Core.Path.{_≡_, refl, sym, ap, _∙_}
+use mathlib.Core.Path.{sym, _∙_}
 use native.Mathlib.Omega.{arith}
 use Rattle.slotted.proofs.index.enter.Needs as need
 use Rattle.slotted.proofs.index.enter.Needs.{then-used-k·by·then-used-k, then-used-k·by·else-used-k·then-n-index, then-used-k·by·else-used-k·else-n-index·then-known}

@@ -1,8 +1,7 @@
 use borrow.Author.Needs.{needs}
-use Prim.Native.Nat.{ℕ, _<_}
 use mathlib.Core.Path.{_≡_, sym, _∙_}
 use native.Mathlib.Omega.{arith}
-use Rattle.slotted.proofs.Images.{left-out, limit-out, slot-not, used-out}
+use Rattle.slotted.proofs.Images.{left-out, limit-out, used-out}
 use Rattle.slotted.proofs.open.unformed.Needs as need
 use Rattle.std.specs.Of.Vec.{vec-items, vec-len}
 

@@ -1,13 +1,13 @@
 use borrow.Author.Needs.{needs}
 use denote.Ref.{now}
-use Prim.Native.Nat.{ℕ, _-_, _*_, _/_, _<_, _≤_}
+use Prim.Native.Nat.{ℕ, _-_, _/_}
 use lib.ListN.{length, getD}
 use mathlib.Core.List.{List}
-use mathlib.Core.Logic.{_⊎_, inl, inr, ⊎-elim}
-use mathlib.Core.Path.{_≡_, refl, sym, ap, subst, _∙_}
+use mathlib.Core.Logic.{⊎-elim}
+use mathlib.Core.Path.{_≡_, sym, ap, subst, _∙_}
 use native.Mathlib.Omega.{arith}
 use Rattle.slotted.proofs.Images.{formed-not}
-use Rattle.slotted.proofs.Opens.{Opened, opened, scan-bad}
+use Rattle.slotted.proofs.Opens.{opened, scan-bad}
 use Rattle.slotted.proofs.slotted.Slotted.open.Needs as need
 use Rattle.slotted.proofs.Tables.{slot-start, used-le}
 use Rattle.slotted.specs.Records.{records, tableOf}

@@ -1,11 +1,10 @@
-use borrow.Author.Needs.{needs}
 use denote.Ref.{now}
-use Prim.Native.Nat.{ℕ, _+_, _*_, _<_}
+use Prim.Native.Nat.{ℕ, _+_, _*_}
 use lib.ListN.{length}
 use mathlib.Core.List.{List}
 use mathlib.Core.Path.{_≡_, sym, ap, _∙_}
 use native.Mathlib.Omega.{arith}
-use Rattle.slotted.proofs.Calls.{Keeps, write-keeps}
+use Rattle.slotted.proofs.Calls.{write-keeps}
 use Rattle.slotted.proofs.slotted.Slotted.put_block.Needs as need
 use Rattle.slotted.specs.Bytes.{put}
 use Rattle.std.proofs.shelf.Lists.{refilled-is}

@@ -1,16 +1,13 @@
-use borrow.Author.Needs.{needs}
 use denote.Ref.{now}
-use Prim.Native.Nat.{ℕ, _+_, _-_, _*_, _<_}
+use Prim.Native.Nat.{ℕ, _+_, _-_, _*_}
 use lib.ListN.{length, getD, set}
 use mathlib.Core.List.{List}
 use mathlib.Core.Path.{_≡_, sym, ap, _∙_}
 use native.Mathlib.Omega.{arith}
-use Rattle.slotted.proofs.Calls.{take-few, take-listed, take-room}
+use Rattle.slotted.proofs.Calls.{take-few, take-listed, take-room, took}
 use Rattle.slotted.proofs.slotted.Slotted.take_record.Needs as need
 use Rattle.slotted.proofs.Takes.{take-left, take-limit, take-used}
-use Rattle.slotted.specs.Bytes.{put}
 use Rattle.slotted.specs.Image.{leftIn, limitIn, slotIn, usedIn}
-use Rattle.slotted.specs.Records.{fresh}
 use Rattle.std.proofs.shelf.Lists.{refilled-is}
 use Rattle.std.specs.Of.Vec.{vec-items, vec-len}
 
@@ -40,7 +37,7 @@ ghost-self c =
     let low = c .pre .low in
     let none = c .pre .none in
     let free = c .pre .free in
-    let e = refilled-is (d .bytes) last width ∙ c .put-record .ensures ∙ ap (λ (x : List ℕ). put x (1030 * d .used) (fresh n)) (c .deref-mut .ensures .value) ∙ ap (λ (u : ℕ). put s (1030 * u) (fresh n)) (d .counted) in
+    let e = took n (d .used) s _ last _ (refilled-is (d .bytes) last width) (c .put-record .ensures) (c .deref-mut .ensures .value) (d .counted) in
     let limit = ap limitIn e ∙ take-limit s n low none free in (
       d .sized ∙ sym limit,
       (
@@ -62,4 +59,4 @@ returns c =
     let n = c .args .n in
     let last = c .put-record .last .bytes in
     let width : length last ≡ vec-len (d .bytes) = omega (arith, c .deref-mut .ensures .len) in
-    refilled-is (d .bytes) last width ∙ c .put-record .ensures ∙ ap (λ (x : List ℕ). put x (1030 * d .used) (fresh n)) (c .deref-mut .ensures .value) ∙ ap (λ (u : ℕ). put s (1030 * u) (fresh n)) (d .counted)
+    took n (d .used) s _ last _ (refilled-is (d .bytes) last width) (c .put-record .ensures) (c .deref-mut .ensures .value) (d .counted)

@@ -10,6 +10,7 @@ use devices::LentDevice;
 use flat::Flat;
 use flat::FlatDevice;
 use images::flat_image;
+use images::slotted_image;
 use model::Model;
 use random::Random;
 use runs::Bench;
@@ -19,6 +20,8 @@ use runs::StopFromRefused;
 use runs::Tally;
 use runs::same_counts;
 use runs::same_image;
+use slotted::Slotted;
+use slotted::SlottedDevice;
 use stacks::HEIGHT;
 use stacks::Kind;
 use stacks::grow4;
@@ -39,6 +42,7 @@ const ROUNDS: u32 = 3;
 #[derive(Clone, Copy)]
 enum Bottom {
     Flat,
+    Slotted,
 }
 
 // How many stacks were run, and how many calls were made on them.
@@ -54,11 +58,8 @@ fn main(rt: LibcRuntime) -> Result<(), AnyError> {
         stacks: 0,
         calls: 0,
     };
-    let differences = if run_bottom(&rt, Bottom::Flat, &mut sums)? {
-        0
-    } else {
-        1
-    };
+    let same = run_bottom(&rt, Bottom::Flat, &mut sums)? && run_bottom(&rt, Bottom::Slotted, &mut sums)?;
+    let differences = if same { 0 } else { 1 };
     let stacks = sums.stacks;
     let calls = sums.calls;
     println!(
@@ -113,6 +114,7 @@ fn run_stack(
 fn bottom_name(bottom: Bottom) -> &'static str {
     match bottom {
         Bottom::Flat => "flat",
+        Bottom::Slotted => "slotted",
     }
 }
 
@@ -141,6 +143,11 @@ fn run_images(bench: &mut Bench, bottom: Bottom, kinds: &[Kind]) -> Result<(), S
                 bench.model = Model::flat(bench.heap, image.as_slice())?;
                 run_flat(bench, kinds, image)?;
             }
+            Bottom::Slotted => {
+                let image = slotted_image(bench.heap, &mut bench.random)?;
+                bench.model = Model::slotted(bench.heap, image.as_slice())?;
+                run_slotted(bench, kinds, image)?;
+            }
         }
     }
     Ok(())
@@ -153,6 +160,22 @@ fn run_flat(bench: &mut Bench, kinds: &[Kind], image: Vec<u8>) -> Result<(), Sto
     for _ in 0..ROUNDS {
         bench.model.clear();
         let mut bottom = Watched::new(Flat::new(bytes));
+        grow4(bench, kinds, &mut bottom)?;
+        if !kinds.is_empty() {
+            same_counts(bench, bottom.counts())?;
+        }
+        bytes = bottom.into_below().into_bytes();
+        same_image(bench, bytes.as_slice())?;
+    }
+    Ok(())
+}
+
+// The same over a slotted image, which is opened again in each round.
+fn run_slotted(bench: &mut Bench, kinds: &[Kind], image: Vec<u8>) -> Result<(), Stop> {
+    let mut bytes = image;
+    for _ in 0..ROUNDS {
+        bench.model.clear();
+        let mut bottom = Watched::new(Slotted::open(bench.heap, bytes)?);
         grow4(bench, kinds, &mut bottom)?;
         if !kinds.is_empty() {
             same_counts(bench, bottom.counts())?;

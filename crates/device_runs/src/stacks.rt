@@ -5,6 +5,8 @@ use crate::runs::StopFromAlloc;
 use crate::runs::StopFromRefused;
 use crate::runs::edge;
 use crate::runs::run;
+use cache::Cache;
+use cache::CacheDevice;
 use devices::Device;
 use quota::Quota;
 use quota::QuotaDevice;
@@ -16,12 +18,13 @@ use window::WindowDevice;
 // A layer of a stack.
 #[derive(Clone, Copy)]
 pub enum Kind {
+    Cache,
     Quota,
     Window,
 }
 
 // How many kinds there are, and how many layers a stack has at most.
-const KINDS: u32 = 2;
+const KINDS: u32 = 3;
 
 pub const HEIGHT: u32 = 4;
 
@@ -36,7 +39,8 @@ pub fn shape(heap: Global, height: u32, code: u32) -> Result<Vec<Kind>, AllocErr
     let mut rest = code;
     for _ in 0..height {
         let kind = match rest % KINDS {
-            0 => Kind::Quota,
+            0 => Kind::Cache,
+            1 => Kind::Quota,
             _ => Kind::Window,
         };
         kinds.push(kind)?;
@@ -51,12 +55,19 @@ pub fn name(heap: Global, bottom: &str, kinds: &[Kind]) -> Result<String, AllocE
     for kind in kinds {
         name.push_str(
             match kind {
-                Kind::Quota => " quota",
+                Kind::Cache => " cache",
+            Kind::Quota => " quota",
                 Kind::Window => " window",
             },
         )?;
     }
     Ok(name)
+}
+
+// A cache over a device, beside one in the model.
+fn with_cache<D: Device + Drop>(bench: &mut Bench, below: D) -> Result<Cache<D>, Stop> {
+    bench.model.add_cache()?;
+    Ok(Cache::new(below))
 }
 
 // A quota over a device, beside one in the model.
@@ -73,15 +84,15 @@ fn with_quota<D: Device + Drop>(bench: &mut Bench, below: D) -> Result<Quota<D>,
 // A window on a device, beside one in the model.
 fn with_window<D: Device + Drop>(bench: &mut Bench, below: D) -> Result<Window<D>, Stop> {
     let limit = bench.model.limit();
-    let base = if bench.random.one_in(8) {
+    let base = if bench.random.one_in(16) {
         edge(&mut bench.random, limit)
     } else {
-        bench.random.below(5)
+        bench.random.below(3)
     };
-    let length = if bench.random.one_in(3) {
+    let length = if bench.random.one_in(8) {
         edge(&mut bench.random, limit)
     } else {
-        bench.random.below(30)
+        bench.random.below(40).saturating_add(8)
     };
     bench.model.add_window(base, length)?;
     Ok(Window::new(below, base, length))
@@ -98,6 +109,10 @@ fn grown<D: Device + Drop>(bench: &mut Bench, top: D) -> Result<(), Stop> {
 fn grow1<D: Device + Drop>(bench: &mut Bench, kinds: &[Kind], below: D) -> Result<(), Stop> {
     match kinds {
         [] => grown(bench, below),
+        [Kind::Cache, ..] => {
+            let device = with_cache(bench, below)?;
+            grown(bench, device)
+        }
         [Kind::Quota, ..] => {
             let device = with_quota(bench, below)?;
             grown(bench, device)
@@ -113,6 +128,10 @@ fn grow1<D: Device + Drop>(bench: &mut Bench, kinds: &[Kind], below: D) -> Resul
 fn grow2<D: Device + Drop>(bench: &mut Bench, kinds: &[Kind], below: D) -> Result<(), Stop> {
     match kinds {
         [] => grown(bench, below),
+        [Kind::Cache, rest @ ..] => {
+            let device = with_cache(bench, below)?;
+            grow1(bench, rest, device)
+        }
         [Kind::Quota, rest @ ..] => {
             let device = with_quota(bench, below)?;
             grow1(bench, rest, device)
@@ -128,6 +147,10 @@ fn grow2<D: Device + Drop>(bench: &mut Bench, kinds: &[Kind], below: D) -> Resul
 fn grow3<D: Device + Drop>(bench: &mut Bench, kinds: &[Kind], below: D) -> Result<(), Stop> {
     match kinds {
         [] => grown(bench, below),
+        [Kind::Cache, rest @ ..] => {
+            let device = with_cache(bench, below)?;
+            grow2(bench, rest, device)
+        }
         [Kind::Quota, rest @ ..] => {
             let device = with_quota(bench, below)?;
             grow2(bench, rest, device)
@@ -143,6 +166,10 @@ fn grow3<D: Device + Drop>(bench: &mut Bench, kinds: &[Kind], below: D) -> Resul
 pub fn grow4<D: Device + Drop>(bench: &mut Bench, kinds: &[Kind], below: D) -> Result<(), Stop> {
     match kinds {
         [] => grown(bench, below),
+        [Kind::Cache, rest @ ..] => {
+            let device = with_cache(bench, below)?;
+            grow3(bench, rest, device)
+        }
         [Kind::Quota, rest @ ..] => {
             let device = with_quota(bench, below)?;
             grow3(bench, rest, device)

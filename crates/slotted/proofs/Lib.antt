@@ -1,0 +1,12 @@
+pub mod Calls
+pub mod Claims
+pub mod Images
+pub mod Marks
+pub mod Opens
+pub mod Puts
+pub mod Records
+pub mod Same
+pub mod Steps
+pub mod Tables
+pub mod Takes
+pub mod Writes

@@ -1,0 +1,5 @@
+pub mod Bytes
+pub mod Table
+pub mod Records
+pub mod Image
+pub mod Account

@@ -58,7 +58,8 @@ fn main(rt: LibcRuntime) -> Result<(), AnyError> {
         stacks: 0,
         calls: 0,
     };
-    let same = run_bottom(&rt, Bottom::Flat, &mut sums)? && run_bottom(&rt, Bottom::Slotted, &mut sums)?;
+    let same = run_bottom(&rt, Bottom::Flat, &mut sums)?
+        && run_bottom(&rt, Bottom::Slotted, &mut sums)?;
     let differences = if same { 0 } else { 1 };
     let stacks = sums.stacks;
     let calls = sums.calls;

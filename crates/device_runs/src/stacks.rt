@@ -56,7 +56,7 @@ pub fn name(heap: Global, bottom: &str, kinds: &[Kind]) -> Result<String, AllocE
         name.push_str(
             match kind {
                 Kind::Cache => " cache",
-            Kind::Quota => " quota",
+                Kind::Quota => " quota",
                 Kind::Window => " window",
             },
         )?;

@@ -1,4 +1,6 @@
 // The page functions as C calls them, for the benchmark in bench/pages. Each call checks its page.
+#![tactic(auto)]
+
 ghost use Rattle.std.specs.Prelude.{◌≡◌, Decides};
 ghost use Rattle.keys.specs.Hash.{hash};
 ghost use Rattle.bench_api.specs.Answers.{Edited, IfItFits, StartsAt};

@@ -1,4 +1,6 @@
 // A write-back cache of eight frames over any page device.
+#![tactic(auto)]
+
 mod ages;
 mod blocks;
 pub mod frames;

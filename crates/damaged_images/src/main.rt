@@ -1,3 +1,5 @@
+#![tactic(auto)]
+
 use listing::list;
 
 // The damaged copies, as data/make-damaged.py makes them; of the last there are no files.

@@ -1,4 +1,6 @@
 // The database over any stack of devices: a directory in blocks 0 to 3, and page p in block 4 + p.
+#![tactic(auto)]
+
 mod reading;
 mod walking;
 

@@ -1,4 +1,6 @@
 // Long random lists of device calls, on every stack of up to four layers, beside a plain model.
+#![tactic(auto)]
+
 mod images;
 mod model;
 mod random;

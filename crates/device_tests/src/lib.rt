@@ -1,4 +1,6 @@
 // Tests of the devices: images well-formed and not, and the numbers at the edges.
+#![tactic(auto)]
+
 #[cfg(test)]
 mod answers;
 #[cfg(test)]

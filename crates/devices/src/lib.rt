@@ -1,4 +1,6 @@
 // A page device: what it means, what a call may answer, and which calls were made.
+#![tactic(auto)]
+
 ghost use Rattle.std.specs.Prelude.{◌≡◌, ◌<◌, true, length};
 ghost use Rattle.devices.specs.Meaning.{Meaning, Sound, Zeroed};
 ghost use Rattle.devices.specs.Step.{Filled, claim as Claims, flush as Flushes, read as Reads, write as Writes};

@@ -1,4 +1,6 @@
 // The directory: which page a hash belongs to.
+#![tactic(auto)]
+
 pub mod way;
 
 ghost use Rattle.std.specs.Prelude.{◌≡◌, ◌+◌, ◌<◌, ◌≤◌, min, Decides, ◌==◌};

@@ -1,4 +1,6 @@
 // The caller's bytes as consecutive blocks.
+#![tactic(auto)]
+
 ghost use Rattle.std.specs.Prelude.{◌≡◌, ◌+◌, ◌≤◌, length, take, drop, Err};
 ghost use Rattle.faults.specs.declared.Layer.TheVariants.{Bottom as AtBottom};
 ghost use Rattle.flat.specs.Blocks.{Went, blocks, flat, put};

@@ -1,4 +1,6 @@
 // Tests of the format: worked examples and edges. There is nothing here but the tests.
+#![tactic(auto)]
+
 #[cfg(test)]
 mod building;
 #[cfg(test)]

@@ -1,4 +1,6 @@
 // The two files of a database, read as they are: which pairs they hold.
+#![tactic(auto)]
+
 ghost use Rattle.std.specs.Prelude.{◌≡◌, ◌+◌, ◌<◌, ◌≤◌, length, take, drop};
 ghost use Rattle.image.specs.Held.{FirstHome, Next, NextReachable, OnPage, PageIs, ValueIs};
 

@@ -1,3 +1,5 @@
+#![tactic(auto)]
+
 ghost use Rattle.std.specs.Prelude.{◌≡◌, ◌+◌, ◌<◌, ◌≤◌, length};
 ghost use Rattle.keys.specs.Hash.{hash};
 ghost use Rattle.keys.specs.Same.{same, Laws, ByBytes};

@@ -1,4 +1,6 @@
 // What a support engineer is told of two files: their state, their pairs, and the values of names.
+#![tactic(auto)]
+
 pub mod text;
 
 use faults::Fault;

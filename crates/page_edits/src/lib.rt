@@ -1,4 +1,6 @@
 // The page that a list of pairs is written as, and the edits of a page, each written into a buffer of the caller's.
+#![tactic(auto)]
+
 mod appending;
 mod bytes;
 mod keeping;

@@ -1,4 +1,6 @@
 // A page of pairs: which pages are good, what they hold, and where a key's value lies.
+#![tactic(auto)]
+
 mod checking;
 mod page;
 mod reading;

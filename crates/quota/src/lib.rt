@@ -1,4 +1,6 @@
 // A limit on the claims over any device.
+#![tactic(auto)]
+
 ghost use Rattle.std.specs.Prelude.{◌≡◌, Err};
 ghost use Rattle.devices.specs.Trace.{Did};
 ghost use Rattle.faults.specs.declared.Layer.TheVariants.{Quota as OfQuota};

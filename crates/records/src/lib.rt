@@ -1,4 +1,6 @@
 // Kinds of records, and the bytes by which a record stands in the database as the value of a key.
+#![tactic(auto)]
+
 ghost use Rattle.std.specs.Prelude.{◌≡◌, ℕ, ◌≤◌, List, ◌++◌, length, drop, Some, Option as Maybe};
 ghost use Rattle.records.specs.Bytes.{Bytes};
 

@@ -1,4 +1,6 @@
 // A page device whose blocks stand in numbered records.
+#![tactic(auto)]
+
 mod bytes;
 mod device;
 mod index;

@@ -1,4 +1,6 @@
 // A part of any device as a device.
+#![tactic(auto)]
+
 ghost use Rattle.std.specs.Prelude.{◌≡◌, Err};
 ghost use Rattle.devices.specs.Trace.{Did};
 ghost use Rattle.faults.specs.declared.Layer.TheVariants.{Window as OfWindow};

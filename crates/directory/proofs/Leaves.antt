@@ -1,7 +1,7 @@
 -- The leaf at which a way ends.
 use Rattle.std.proofs.Common.{◌≡◌, ℕ, ◌<◌, ◌≤◌, Bool, true, false, sym, ap, ◌∙◌}
 use Rattle.directory.specs.Ending.{leaf_of}
-use Rattle.directory.specs.Tree.{Ends, low, node}
+use Rattle.directory.specs.Tree.{low, node}
 use Rattle.directory.specs.declared.Leaf.{Leaf}
 use Rattle.directory.proofs.Lookups.{ends_once, index_on_way}
 

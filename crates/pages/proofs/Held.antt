@@ -1,6 +1,6 @@
 -- What a page that was read is known to be.
 use Rattle.std.proofs.Common.{◌≡◌, ℕ, ◌≤◌, min, List, ap, ◌∙◌, arith}
-use Rattle.pages.specs.Page.{Bytes, Good, key_end, pairs}
+use Rattle.pages.specs.Page.{Good, key_end, pairs}
 use Rattle.pages.specs.declared.page.PairPage.{PairPage}
 
 pub good_in : (p : PairPage) → Good p.bytes.now

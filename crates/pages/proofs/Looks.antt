@@ -1,8 +1,8 @@
 -- A search through a list of pairs, by number.
-use Rattle.std.proofs.Common.{◌≡◌, ℕ, zero, suc, ◌+◌, ◌-◌, ◌<◌, ◌≤◌, true, false, List, [], ◌∷◌, length, get_or, take, drop, Some, None, sym, refl, ap, ◌∙◌, arith}
+use Rattle.std.proofs.Common.{◌≡◌, ℕ, zero, suc, ◌-◌, ◌<◌, true, false, List, [], ◌∷◌, length, get_or, take, drop, Some, None, refl, ap, ◌∙◌, arith}
 use Rattle.keys.proofs.Sames.{laws}
 use Rattle.keys.specs.Same.{same}
-use Rattle.pages.specs.Page.{Apart, Laid, Pair, key_at, key_end, key_of, look, pair_of, pairs, pairs_of, val_at, val_of}
+use Rattle.pages.specs.Page.{Apart, Pair, key_at, key_of, look, pair_of, pairs, pairs_of, val_at, val_of}
 use Rattle.pages.specs.Read.{Found, Which, val_place}
 use Rattle.pages.proofs.Pages.{not_true, not_both}
 use Rattle.std.proofs.lemmas.List.FromFn.{get_or-map-range_with_len, length-map-range_with_len}

@@ -5,7 +5,7 @@
 --
 -- A count n, then n offsets in twos: where a key starts, and where its value does. The first key ends at 1,024, each value
 -- ends where its key starts, and each later key ends where the value before it starts.
-use Rattle.std.specs.Prelude.{◌≡◌, ℕ, zero, suc, ◌+◌, ◌*◌, ◌/◌, ◌%◌, ◌<◌, ◌≤◌, Bool, true, false, cond, List, [], ◌∷◌, map, length, Some, None, Option, slice_index}
+use Rattle.std.specs.Prelude.{◌≡◌, ℕ, zero, suc, ◌+◌, ◌*◌, ◌/◌, ◌%◌, ◌<◌, ◌≤◌, false, cond, List, [], ◌∷◌, map, length, Some, None, Option, slice_index}
 use Rattle.std.specs.List.{between, range_with_len}
 use Rattle.keys.specs.Same.{same}
 

@@ -1,10 +1,10 @@
 -- What the functions on pages answer.
-use Rattle.std.specs.Prelude.{◌≡◌, ℕ, ◌+◌, ◌-◌, ◌*◌, ◌<◌, ◌≤◌, Bool, true, false, cond, List, length, take, drop, replicate, Some, None, Ok, Err, Decides, Option, Result, ◌==◌, nat_le}
+use Rattle.std.specs.Prelude.{◌≡◌, ℕ, ◌+◌, ◌-◌, ◌<◌, ◌≤◌, true, false, cond, List, length, take, drop, Some, None, Ok, Err, Option, Result, ◌==◌, nat_le}
 use Rattle.std.specs.Borrow.{Bor}
 use Rattle.faults.specs.declared.Fault.{Fault}
 use Rattle.faults.specs.Numbers.{numbers}
 use Rattle.keys.specs.Same.{same}
-use Rattle.pages.specs.Page.{Good, pairs, pairs_of, key_of, key_at, val_at, key_end, look}
+use Rattle.pages.specs.Page.{pairs, pairs_of, key_of, key_at, val_at, key_end, look}
 
 -- a place: offset and length
 abbrev pub Place : Type 0

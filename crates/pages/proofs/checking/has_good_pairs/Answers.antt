@@ -1,10 +1,10 @@
-use Rattle.std.proofs.Common.{◌≡◌, ℕ, ◌<◌, false, List, length, get_or, sym, ap, ◌∙◌, arith, rules, below_more}
+use Rattle.std.proofs.Common.{◌≡◌, ℕ, ◌<◌, false, List, length, sym, ap, ◌∙◌, arith, rules, below_more}
 use Rattle.keys.specs.Print.{print}
 use Rattle.keys.specs.Same.{same}
 use Rattle.pages.specs.Page.{key_of, pairs}
 use Rattle.pages.proofs.Pages.{apart_more, end_more, good_from, key_is, now_one, stays_one, unseen}
 use Rattle.pages.proofs.checking.has_good_pairs.Goals as goal
-use Rattle.pages.proofs.checking.has_good_pairs.Goals.{then-seen-print-ne0+in-default, else-seen-print-ne0}
+use Rattle.pages.proofs.checking.has_good_pairs.Goals.{then-seen-print-ne0+in_default, else-seen-print-ne0}
 use Rattle.std.proofs.lemmas.List.{length-set}
 use Rattle.std.proofs.lemmas.Bool.{leb-true, le-leb}
 
@@ -15,9 +15,9 @@ print-is c = c.fingerprint-print.ensures.value ∙ ap print (key_is c.args.page.
 fresh : (c : goal.Joined-seen-print-ne0) (i : ℕ) → i < c.loop-k.k → same (key_of c.args.page.now i) (key_of c.args.page.now c.loop-k.k) ≡ false
 fresh c i lt =
     elim c.if-seen-print-ne0.branch [
-      | then-seen-print-ne0+in-default w ↦
+      | then-seen-print-ne0+in_default w ↦
           ap (λ (k : List ℕ). same (key_of c.args.page.now i) k) (sym (key_is c.args.page.now c.loop-k.k _ _ c.get16-at.ensures.value c.loop-k.invariant.0))
-          ∙ w.in-default.ensures i lt
+          ∙ w.in_default.ensures i lt
       | else-seen-print-ne0 w ↦ unseen c.args.page.now c.loop-k.seen i c.loop-k.k _ (print-is c) (c.loop-k.invariant.4 i lt) w.if-seen-print-ne0.false
     ]
 

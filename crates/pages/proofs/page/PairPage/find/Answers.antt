@@ -1,4 +1,3 @@
-use Rattle.std.proofs.Common.{arith}
 use Rattle.pages.proofs.Looks.{found_at, page_none}
 use Rattle.pages.proofs.page.PairPage.find.Goals as goal
 

@@ -1,6 +1,6 @@
 use Rattle.pages.specs.declared.page.PairPage.{PairPage}
 use Rattle.pages.proofs.Held.{end_at, good_in}
-use Rattle.std.proofs.Common.{◌≡◌, ℕ, zero, suc, ◌+◌, ◌-◌, ◌*◌, ◌/◌, ◌%◌, ◌<◌, ◌≤◌, min, List, [], ◌∷◌, ◌++◌, length, get_or, take, drop, replicate, sym, refl, ap, ◌∙◌, subst, append_assoc, append-nil, arith, length-append}
+use Rattle.std.proofs.Common.{◌≡◌, ℕ, ◌+◌, ◌-◌, ◌*◌, ◌≤◌, min, List, [], ◌∷◌, ◌++◌, length, take, drop, replicate, sym, refl, ap, ◌∙◌, append_assoc, arith, length-append}
 use lib.ListN.{length-replicate}
 use Rattle.pages.specs.Page.{Bytes, Pair, Good, pairs, pairs_of, count, key_end}
 use Rattle.page_edits.specs.Bytes.{added, put}

@@ -1,12 +1,11 @@
-use Rattle.std.proofs.Common.{◌≡◌, ℕ, zero, suc, ◌+◌, ◌-◌, ◌*◌, ◌/◌, ◌%◌, ◌<◌, ◌≤◌, ◌⊎◌, List, [], ◌∷◌, ◌++◌, length, get_or, take, drop, replicate, sym, refl, ap, ◌∙◌, subst, inl, inr, ⊎_elim, append_assoc, append-nil, add-one, arith, lit<, length-append}
+use Rattle.std.proofs.Common.{◌≡◌, ℕ, zero, suc, ◌+◌, ◌-◌, ◌*◌, ◌<◌, ◌≤◌, List, [], ◌∷◌, ◌++◌, length, get_or, replicate, sym, refl, ap, ◌∙◌, subst, append_assoc, append-nil, arith, lit<, length-append}
 use lib.ListN.{length-replicate}
-use Rattle.std.specs.List.{between, AllByRecursion as All}
+use Rattle.std.specs.List.{between}
 use Rattle.std.proofs.ByRecursion.{All-get_or}
 use Rattle.std.proofs.lemmas.List.{ext_get_or}
-use Rattle.pages.specs.Page.{word, Pair, key_at, val_at, key_end, key_of, val_of, pair_of, pairs, pairs_of, count, Good, Laid}
-use Rattle.keys.specs.Same.{same}
+use Rattle.pages.specs.Page.{word, Pair, key_at, val_at, key_end, key_of, pair_of, pairs, pairs_of, count, Good}
 use Rattle.page_edits.specs.Laws.{ReadsBack}
-use Rattle.page_edits.specs.Write.{le2, size, offs, body, len_of, shape, free, written, Fits, key_in}
+use Rattle.page_edits.specs.Write.{le2, size, offs, body, len_of, free, written, Fits, key_in}
 use Rattle.page_edits.proofs.Cut.{plain, between_seg, word_at, length_offs, length_body}
 use Rattle.pages.proofs.Looks.{pair_at, length_pairs}
 use Rattle.pages.proofs.Pages.{end_more}

@@ -1,7 +1,7 @@
 -- When one more pair fits, and the page without a key.
 use Rattle.pages.specs.declared.page.PairPage.{PairPage}
 use Rattle.pages.proofs.Held.{end_at, good_in}
-use Rattle.std.proofs.Common.{◌≡◌, ℕ, zero, suc, ◌+◌, ◌-◌, ◌*◌, ◌<◌, ◌≤◌, min, Bool, true, false, cond, not, ◌⊎◌, List, [], ◌∷◌, ◌++◌, length, get_or, take, drop, replicate, is_some, None, Decides, sym, refl, ap, ◌∙◌, subst, inl, inr, ⊎_elim, append_assoc, arith, length-append}
+use Rattle.std.proofs.Common.{◌≡◌, ℕ, zero, suc, ◌+◌, ◌-◌, ◌*◌, ◌<◌, ◌≤◌, min, true, false, ◌⊎◌, List, [], ◌∷◌, ◌++◌, length, replicate, is_some, None, Decides, sym, refl, ap, ◌∙◌, subst, inl, inr, ⊎_elim, append_assoc, arith, length-append}
 use lib.ListN.{length-replicate}
 use Rattle.keys.specs.Same.{same}
 use Rattle.pages.proofs.Looks.{length_pairs, none, page_none, page_some, pair_at}

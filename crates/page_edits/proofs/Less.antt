@@ -1,17 +1,15 @@
 use Rattle.pages.specs.declared.page.PairPage.{PairPage}
 use Rattle.pages.proofs.Held.{end_at, good_in}
-use Rattle.std.proofs.Common.{◌≡◌, ℕ, zero, suc, ◌+◌, ◌-◌, ◌*◌, ◌/◌, ◌%◌, ◌<◌, ◌≤◌, min, List, [], ◌∷◌, ◌++◌, map, length, get_or, take, drop, replicate, sym, refl, ap, ◌∙◌, subst, append_assoc, append-nil, add-one, arith, length-append, take-add}
-use lib.ListN.{length-replicate}
+use Rattle.std.proofs.Common.{◌≡◌, ℕ, zero, suc, ◌+◌, ◌-◌, ◌*◌, ◌<◌, ◌≤◌, min, List, [], ◌∷◌, ◌++◌, map, length, take, drop, sym, refl, ap, ◌∙◌, append_assoc, add-one, arith, length-append, take-add}
 use Rattle.std.specs.List.{between, remove, range_with_len}
 use Rattle.std.proofs.lemmas.List.FromFn.{map-range_with_len_more, take-map-range_with_len, length-map-range_with_len}
 use Rattle.std.proofs.lemmas.List.Edits.{between_none}
-use Rattle.std.proofs.lemmas.List.{drop-drop, take-append-drop}
+use Rattle.std.proofs.lemmas.List.{drop-drop}
 use Rattle.std.proofs.lemmas.Slice.{between_is, between_to_end}
-use Rattle.pages.specs.Page.{Bytes, Pair, key_at, val_at, key_end, key_of, val_of, pair_of, pairs, pairs_of, count, Good}
+use Rattle.pages.specs.Page.{Bytes, Pair, key_at, val_at, key_end, key_of, val_of, pair_of, pairs, pairs_of, Good}
 use Rattle.page_edits.specs.Bytes.{raised, parts}
-use Rattle.page_edits.specs.Write.{le2, size, offs, body, len_of, free, written}
+use Rattle.page_edits.specs.Write.{size, offs, body, len_of, free, written}
 use Rattle.page_edits.proofs.Cut.{offs_append, body_append, size_append}
-use Rattle.pages.proofs.Looks.{length_pairs}
 use Rattle.pages.proofs.Pages.{end_more}
 use Rattle.page_edits.proofs.One.{upto, takes, key_len, val_len, laid_at}
 

@@ -1,18 +1,16 @@
-use Rattle.std.proofs.Common.{◌≡◌, ℕ, zero, suc, ◌+◌, ◌-◌, ◌*◌, ◌/◌, ◌%◌, ◌<◌, ◌≤◌, List, [], ◌∷◌, ◌++◌, map, length, get_or, take, drop, replicate, sym, refl, ap, ◌∙◌, subst, append_assoc, append-nil, add-one, arith, lit<, length-append}
-use lib.ListN.{length-replicate}
-use Rattle.std.specs.List.{between, range_with_len, AllByRecursion as All}
+use Rattle.std.proofs.Common.{◌≡◌, ℕ, zero, suc, ◌+◌, ◌-◌, ◌*◌, ◌/◌, ◌%◌, ◌<◌, ◌≤◌, List, [], ◌∷◌, ◌++◌, map, length, get_or, take, drop, sym, refl, ap, ◌∙◌, append_assoc, add-one, arith}
+use Rattle.std.specs.List.{between, range_with_len}
 use Rattle.std.proofs.ByRecursion.{All-from_get_or}
 use Rattle.std.proofs.lemmas.Nat.{mod-mul-add, div-mul-add}
 use Rattle.std.proofs.lemmas.List.Edits.{length-between}
 use Rattle.std.proofs.lemmas.List.FromFn.{map-range_with_len_more}
 use Rattle.std.proofs.lemmas.List.{take_more, take-append-drop, drop-drop, drop_all}
 use Rattle.pages.specs.Page.{Bytes, word, Pair, key_at, val_at, key_end, key_of, val_of, pair_of, pairs, pairs_of, count, Good}
-use Rattle.keys.specs.Same.{same}
-use Rattle.page_edits.specs.Laws.{OnePage, Parts, SameAgain, middle}
+use Rattle.page_edits.specs.Laws.{OnePage, Parts, SameAgain}
 use Rattle.page_edits.specs.Write.{le2, size, offs, body, len_of, shape, free, written, Fits, key_in}
 use Rattle.page_edits.proofs.Cut.{offs_append, body_append, size_append}
 use Rattle.pages.proofs.Looks.{pair_at, length_pairs, none}
-use Rattle.pages.proofs.Pages.{end_more, end_within}
+use Rattle.pages.proofs.Pages.{end_within}
 use Rattle.page_edits.proofs.Back.{reads_back}
 
 low_of : (a b : ℕ) → a < 256 → a ≡ (a + b * 256) % 256

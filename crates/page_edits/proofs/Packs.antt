@@ -1,9 +1,8 @@
 -- The pairs that a test keeps, packed one after another.
-use Rattle.std.proofs.Common.{◌≡◌, ℕ, zero, suc, ◌+◌, ◌-◌, ◌*◌, ◌%◌, ◌^◌, ◌<◌, ◌≤◌, Bool, true, false, cond, eqb, List, [], ◌∷◌, ◌++◌, length, get_or, take, drop, replicate, filter, sym, refl, ap, ◌∙◌, subst, append_assoc, append-nil, arith, length-append}
+use Rattle.std.proofs.Common.{◌≡◌, ℕ, ◌+◌, ◌-◌, ◌*◌, ◌<◌, ◌≤◌, Bool, true, false, cond, List, [], ◌∷◌, ◌++◌, length, take, drop, replicate, filter, sym, refl, ap, ◌∙◌, subst, append_assoc, append-nil, arith, length-append}
 use lib.ListN.{length-replicate}
-use Rattle.keys.specs.Hash.{hash}
 use Rattle.pages.proofs.Held.{good_in}
-use Rattle.pages.specs.Page.{Bytes, Good, Pair, key_at, key_end, key_of, pair_of, pairs, pairs_of, val_at, val_of}
+use Rattle.pages.specs.Page.{Pair, key_at, key_end, key_of, pair_of, pairs, pairs_of, val_at, val_of}
 use Rattle.pages.specs.declared.page.PairPage.{PairPage}
 use Rattle.page_edits.proofs.Cut.{body_append, cut, length_body, length_offs, offs_append, put_seg, size_append}
 use Rattle.page_edits.proofs.Less.{between_join}

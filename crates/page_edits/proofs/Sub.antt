@@ -1,9 +1,9 @@
-use Rattle.std.proofs.Common.{◌≡◌, ℕ, zero, suc, ◌+◌, ◌-◌, ◌*◌, ◌<◌, ◌≤◌, Bool, true, false, cond, List, [], ◌∷◌, ◌++◌, length, get_or, take, filter, sym, refl, ap, ◌∙◌, subst, arith}
+use Rattle.std.proofs.Common.{◌≡◌, ℕ, zero, suc, ◌+◌, ◌*◌, ◌<◌, ◌≤◌, Bool, true, false, cond, List, [], ◌∷◌, length, take, filter, arith}
 use Rattle.std.specs.List.{AllByRecursion as All}
 use Rattle.std.proofs.ByRecursion.{all_kept_by, All-take, All-get_or, All-from_get_or}
 use Rattle.pages.specs.Page.{Pair}
 use Rattle.keys.specs.Same.{same}
-use Rattle.page_edits.specs.Write.{Fits, size, len_of, key_in}
+use Rattle.page_edits.specs.Write.{Fits, size, key_in}
 
 abbrev none : Pair
 none = ([], [])

@@ -1,11 +1,10 @@
 -- The worked cases.
-use Rattle.std.proofs.Common.{◌≡◌, ℕ, zero, suc, ◌+◌, ◌*◌, ◌<◌, ◌≤◌, false, List, [], ◌∷◌, ◌++◌, length, get_or, replicate, refl, arith, length-append}
-use lib.ListN.{length-replicate}
+use Rattle.std.proofs.Common.{◌≡◌, ℕ, zero, suc, ◌<◌, ◌≤◌, false, List, [], ◌∷◌, refl, arith}
 use Rattle.keys.specs.Hash.{hash}
 use Rattle.keys.specs.Same.{same}
 use Rattle.pages.specs.Page.{Good, Pair, key_at, key_end, pairs, val_at}
 use Rattle.page_edits.specs.Laws.{Cases, two_offsets}
-use Rattle.page_edits.specs.Write.{Fits, key_in, le2, len_of, written}
+use Rattle.page_edits.specs.Write.{key_in, written}
 
 abbrev six : List ℕ
 six = two_offsets 1023 6

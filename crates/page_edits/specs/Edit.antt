@@ -1,5 +1,5 @@
 -- What the edits of a page answer, and what they leave in the buffer.
-use Rattle.std.specs.Prelude.{◌≡◌, ℕ, ◌+◌, ◌%◌, ◌^◌, Bool, true, false, not, List, [], ◌∷◌, ◌++◌, length, is_some, Ok, Err, filter, Result, ◌==◌, ◌≢◌}
+use Rattle.std.specs.Prelude.{◌≡◌, ℕ, ◌%◌, ◌^◌, Bool, true, false, not, List, [], ◌∷◌, ◌++◌, length, is_some, Ok, Err, filter, Result, ◌==◌, ◌≢◌}
 use Rattle.faults.specs.Numbers.{numbers}
 use Rattle.faults.specs.declared.Fault.{Fault}
 use Rattle.keys.specs.Hash.{hash}

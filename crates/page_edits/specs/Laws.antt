@@ -1,5 +1,5 @@
 -- The laws of written pages, and the worked cases.
-use Rattle.std.specs.Prelude.{◌≡◌, ℕ, ◌+◌, ◌-◌, ◌*◌, ◌<◌, ◌≤◌, false, List, [], ◌∷◌, ◌++◌, length, take, drop, replicate}
+use Rattle.std.specs.Prelude.{◌≡◌, ℕ, ◌+◌, ◌*◌, ◌<◌, false, List, [], ◌∷◌, ◌++◌, length, take, drop, replicate}
 use Rattle.keys.specs.Hash.{hash}
 use Rattle.keys.specs.Same.{same}
 use Rattle.pages.specs.Page.{Bytes, Good, Pair, count, pairs_of}

@@ -1,4 +1,4 @@
-use Rattle.std.proofs.Common.{◌≡◌, ℕ, Bool, true, false, sym, refl, ◌∙◌, arith, eqb-true}
+use Rattle.std.proofs.Common.{false, sym, refl, arith, eqb-true}
 use borrow.Author.Tests.{eqb-false}
 use Rattle.pages.proofs.Held.{good_in}
 use Rattle.pages.proofs.Pages.{not_both}
@@ -6,14 +6,14 @@ use Rattle.page_edits.proofs.Add.{room_for}
 use Rattle.page_edits.proofs.Fit.{fits_named, no_from, page_fits, page_new}
 use Rattle.page_edits.proofs.appending.fits.Goals as goal
 
-pub returns-then-is-empty : goal.returns-then-is-empty
-returns-then-is-empty c =
-    no_from (λ f. let z = eqb-true _ _ (sym c.if-is-empty.ensures) in omega (arith, fits_named _ _ _ f))
+pub returns-then-is_empty : goal.returns-then-is_empty
+returns-then-is_empty c =
+    no_from (λ f. let z = eqb-true _ _ (sym c.if-is_empty.ensures) in omega (arith, fits_named _ _ _ f))
 
-pub returns-then-not-has-room : goal.returns-then-not-has-room
-returns-then-not-has-room c =
+pub returns-then-not-has_room : goal.returns-then-not-has_room
+returns-then-not-has_room c =
     no_from (λ f.
-    not_both false (c.if-not-has-room.ensures.1 (room_for _ c.args.page.now.typed (good_in c.args.page.now) _ _ f)) refl)
+    not_both false (c.if-not-has_room.ensures.1 (room_for _ c.args.page.now.typed (good_in c.args.page.now) _ _ f)) refl)
 
 pub returns-in-Some : goal.returns-in-Some
 returns-in-Some c =
@@ -24,8 +24,8 @@ pub returns-in-None : goal.returns-in-None
 returns-in-None c = (
   λ _.
       page_fits _ c.args.page.now.typed (good_in c.args.page.now) _ _
-      (let z = eqb-false _ _ (sym c.if-is-empty.ensures) in omega arith)
+      (let z = eqb-false _ _ (sym c.if-is_empty.ensures) in omega arith)
       c.in-None.ensures
-      (c.if-not-has-room.ensures.0 refl),
+      (c.if-not-has_room.ensures.0 refl),
   λ _. refl,
 )

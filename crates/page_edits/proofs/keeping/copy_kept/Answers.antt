@@ -11,8 +11,8 @@ place-requires c =
     let r = turn_room c.args.page.now c.args.bits c.args.low c.loop-k.k (omega arith) _ c.bytes-bytes.ensures _ c.offsets-val.ensures.value _ _ _ c.loop-k.invariant c.if-falls.ensures in
     record { whole = omega arith; room = (omega (arith, r.0, r.1), r.2); within = omega (arith, r.1) }
 
-pub overflow-sub-free-then-falls : goal.overflow-sub-free-then-falls
-overflow-sub-free-then-falls c =
+pub overflow_sub-free-then-falls : goal.overflow_sub-free-then-falls
+overflow_sub-free-then-falls c =
     let r = turn_room c.args.page.now c.args.bits c.args.low c.loop-k.k (omega arith) _ c.bytes-bytes.ensures _ c.offsets-val.ensures.value _ _ _ c.loop-k.invariant c.if-falls.ensures in
     omega (arith, r.0)
 

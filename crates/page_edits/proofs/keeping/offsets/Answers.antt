@@ -11,6 +11,6 @@ returns c =
     let b = c.bytes-bytes.ensures in
     let val : c.get16.result ≡ val_at page k = c.get16.ensures.value ∙ ap (λ (s : List ℕ). word s (4 * k + 4)) b in
     let at : c.get16-2.result ≡ key_at page k = c.get16-2.ensures.value ∙ ap (λ (s : List ℕ). word s (4 * k + 2)) b in
-    let end : c.key-end.result ≡ key_end page k = end_at page k _ (omega (arith, c.requires)) c.key-end.ensures in
+    let end : c.key_end.result ≡ key_end page k = end_at page k _ (omega (arith, c.requires)) c.key_end.ensures in
     let l = laid_at page (good_in c.args.page.now) k c.requires in
     record { value = cc; order = (omega (arith, l.1), (omega (arith, l.0), omega (arith, l.2))) }

@@ -1,10 +1,10 @@
 -- Where the pairs of a page that was read lie, and which of them are at home.
-use Rattle.std.proofs.Common.{◌≡◌, ℕ, ◌+◌, ◌-◌, ◌<◌, ◌≤◌, Bool, true, false, cond, eqb, ◌⊎◌, List, length, take, drop, replicate, Some, None, MatchBool, sym, refl, ap, ◌∙◌, subst, inl, inr, ⊎_elim, arith, eqb-true}
+use Rattle.std.proofs.Common.{◌≡◌, ℕ, ◌+◌, ◌-◌, ◌<◌, ◌≤◌, Bool, true, false, cond, eqb, List, length, replicate, Some, None, MatchBool, sym, refl, ap, ◌∙◌, subst, inr, ⊎_elim, arith, eqb-true}
 use borrow.Author.Tests.{eqb-false}
 use Rattle.directory.proofs.Lookups.{home}
 use Rattle.directory.specs.Tree.{Reachable, bits_of, depth_of, low, page_of}
 use Rattle.directory.specs.declared.Leaf.{Leaf}
-use Rattle.image.specs.Held.{AtHome, Belongs, FirstHome, FirstOn, Has, NoneFrom, Quiet, Readable, Silent, home_of, page_at, start}
+use Rattle.image.specs.Held.{AtHome, Belongs, FirstHome, FirstOn, Has, NoneFrom, Quiet, Readable, Silent, page_at, start}
 use Rattle.keys.specs.Hash.{hash}
 use Rattle.pages.proofs.Held.{good_in}
 use Rattle.pages.proofs.Pages.{end_within}

@@ -1,4 +1,4 @@
-use Rattle.std.proofs.Common.{◌≡◌, ℕ, length, refl, ap, ◌∙◌, arith}
+use Rattle.std.proofs.Common.{length, refl, ap, arith}
 use Rattle.image.proofs.Images.{bytes_are, first_on, key_shown, key_within, silent, val_within, value_shown}
 use Rattle.image.proofs.Image.next_on.Goals as goal
 
@@ -17,13 +17,13 @@ returns-in-Some c =
     let dir = c.args.self.now.dir.now in
     let pag = c.args.self.now.pag.now in
     let p = c.args.p in
-    let leaf = c.look-up-leaf.result in
-    let de = c.look-up-leaf.ensures.depth in
-    let pe = c.look-up-leaf.ensures.page in
+    let leaf = c.look_up-leaf.result in
+    let de = c.look_up-leaf.ensures.depth in
+    let pe = c.look_up-leaf.ensures.page in
     let re = c.if-leaf-p.false in
     let r = c.read-page.result in
-    let ok = c.in-ok-page-bytes.ensures in
-    let is = bytes_are pag p p refl r _ ok c.if-not-is-good.ensures c.read-page.ensures.bytes in
+    let ok = c.in_ok-page_bytes.ensures in
+    let is = bytes_are pag p p refl r _ ok c.if-not-is_good.ensures c.read-page.ensures.bytes in
     let f = c.in-Some.ensures in (
       first_on dir p leaf de pe re pag r is ok.0 c.args.first c.in-Some.number c.in-Some.key c.in-Some.value f,
       refl,
@@ -35,6 +35,6 @@ pub returns-in-None : goal.returns-in-None
 returns-in-None c =
     let pag = c.args.self.now.pag.now in
     let p = c.args.p in
-    let ok = c.in-ok-page-bytes.ensures in
-    silent c.args.self.now.dir.now p c.look-up-leaf.result c.look-up-leaf.ensures.depth c.look-up-leaf.ensures.page c.if-leaf-p.false pag c.read-page.result
-    (bytes_are pag p p refl c.read-page.result _ ok c.if-not-is-good.ensures c.read-page.ensures.bytes) ok.0 c.args.first c.in-None.ensures
+    let ok = c.in_ok-page_bytes.ensures in
+    silent c.args.self.now.dir.now p c.look_up-leaf.result c.look_up-leaf.ensures.depth c.look_up-leaf.ensures.page c.if-leaf-p.false pag c.read-page.result
+    (bytes_are pag p p refl c.read-page.result _ ok c.if-not-is_good.ensures c.read-page.ensures.bytes) ok.0 c.args.first c.in-None.ensures

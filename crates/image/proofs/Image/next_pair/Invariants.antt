@@ -1,4 +1,4 @@
-use Rattle.std.proofs.Common.{◌≡◌, ◌≤◌}
+use Rattle.std.proofs.Common.{◌≡◌}
 use Rattle.image.specs.Held.{Quiet, start}
 use Rattle.image.proofs.Image.next_pair.Given as goal
 

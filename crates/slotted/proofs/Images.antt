@@ -6,7 +6,7 @@ use Rattle.slotted.specs.Image.{WellFormed, block_in, block_of, held_in, left_in
 use Rattle.slotted.specs.Records.{block_at, records, table_of}
 use Rattle.slotted.specs.Table.{good_to, slot_to, used_to}
 use Rattle.std.proofs.lemmas.List.{length-drop, length-replicate, length-take}
-use Rattle.std.proofs.lemmas.Bool.{and_from, and_parts, both_ways, cases_Bool, cases_lt, cond-false, cond-true, eq-eqb, eqb-true, le-leb, leb-true, ne_eqb, not_from_false, not_from_true, not_true, not-false}
+use Rattle.std.proofs.lemmas.Bool.{and_from, and_parts, both_ways, cases_Bool, cases_lt, cond-false, cond-true, eq-eqb, eqb-true, le-leb, leb-true, ne_eqb, not_from_false, not_from_true, not-true, not-false}
 
 pub never : {P : Type 0} (b : Bool) → b ≡ true → b ≡ false → P
 never b t f = let z : ⊥ = both_ways b f t in elim z [ ]
@@ -89,7 +89,7 @@ module _ (s : List ℕ) where
       (cases_Bool (well_formed s))
 
   pub held_slot : (n : ℕ) → held_in s n ≡ true → slot_in s n ≡ 0 → ⊥
-  held_slot n h e = both_ways (eqb (slot_in s n) 0) (not_true _ h) (eq-eqb (slot_in s n) 0 e)
+  held_slot n h e = both_ways (eqb (slot_in s n) 0) (not-true _ h) (eq-eqb (slot_in s n) 0 e)
 
   pub unheld_slot : (n : ℕ) → held_in s n ≡ false → slot_in s n ≡ 0
   unheld_slot n h = eqb-true (slot_in s n) 0 (not-false (eqb (slot_in s n) 0) h)

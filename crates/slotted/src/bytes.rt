@@ -7,7 +7,7 @@ pub(crate) fn marked(bytes: &[u8], at: usize) -> bool
     requires { at + 2 ≤ length bytes.now }
     ensures { result ≡ marked_at bytes.now at }
 {
-    &bytes[at..at + 2] == b"SD"
+    &bytes[at..at + 2] == b"SD".as_slice()
 }
 
 // Whether the mark of a free record is at a place.

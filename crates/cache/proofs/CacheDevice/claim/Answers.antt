@@ -11,4 +11,4 @@ returns g c =
     let e = g.D.Device.meaning c.claim-2.new.self in
     let n = c.args.n in
     let un : d.held n ≡ false = search rules in
-    ((search rules, search rules), claimed_new q p d e n un c.forget.ensures c.in-ok-claim.ensures.1)
+    ((search rules, search rules), claimed_new q p d e n un c.forget.ensures c.in_ok-claim.ensures.1)

@@ -25,7 +25,7 @@ returns-in-Some g c =
         (read_trace (Did g.D.Device.steps M) M q x x n size (Some c.in-Some.i) (Ok tt) (own_read_ok d n size full range) found.place (refl, refl), refl),
         record { kept = kept_self (cached q d); backing = refl; buffer = full; range = range },
       );
-      into = c.copy-from-slice.ensures.after ∙ c.bytes.ensures.value ∙ ap (λ (f : Frame). f.block) c.frame.ensures ∙ sym found.shows.1;
+      into = c.copy_from_slice.ensures.after ∙ c.bytes.ensures.value ∙ ap (λ (f : Frame). f.block) c.frame.ensures ∙ sym found.shows.1;
     }
 
 pub returns : goal.returns
@@ -40,7 +40,7 @@ returns g c =
     let size = length c.args.into.now in
     let full : size ≡ 1024 = search rules in
     let range : n < d.limit = search rules in
-    let found = c.in-default.ensures in
+    let found = c.in_default.ensures in
     record {
       step = (
         (read_trace (Did g.D.Device.steps M) M q x c.read.new.self n size None r (own_read_ok d n size full range) found.place (last_call (Did g.D.Device.steps M) (read n size) x c.read.new.self r c.read.ensures.step), refl),

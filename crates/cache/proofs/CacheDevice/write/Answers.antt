@@ -35,19 +35,19 @@ pub returns : goal.returns
 returns g c =
     let M = g.D.Device.meaning in
     let x = c.args.self.now.below in
-    let y = c.make-room.new.self.below in
+    let y = c.make_room.new.self.below in
     let q = in_use c.args.self.now.queue in
-    let p = in_use c.make-room.new.self.queue in
+    let p = in_use c.make_room.new.self.queue in
     let d = g.D.Device.meaning c.args.self.now.below in
-    let e = g.D.Device.meaning c.make-room.new.self.below in
+    let e = g.D.Device.meaning c.make_room.new.self.below in
     let n = c.args.n in
     let bytes = c.args.from.now in
     let f : Frame = record { number = n; block = bytes } in
     let size : length bytes ≡ 1024 = search rules in
     let range : n < d.limit = search rules in
     let held : d.held n ≡ true = search rules in
-    let room = c.in-ok-make-room.ensures in
-    let free : None ≡ newest q n = c.in-default.ensures.place in (
+    let room = c.in_ok-make_room.ensures in
+    let free : None ≡ newest q n = c.in_default.ensures.place in (
       (
         write_trace (Did g.D.Device.steps M) M q x y n bytes None (Ok tt) (own_ok d n bytes size range held) free room.below,
         c.push.ensures ∙ ap (λ (o : List Frame). o ++ f ∷ []) room.frames ∙ ap (λ (o : Option ℕ). stored q o n bytes) free,

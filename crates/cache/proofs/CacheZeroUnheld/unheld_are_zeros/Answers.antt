@@ -5,4 +5,4 @@ use Rattle.cache.specs.InUse.{in_use}
 pub returns : goal.returns
 returns g c =
     let s = c.args.self.now in
-    cached_zeroed (in_use s.queue) (g.D.Device.meaning s.below) c.unheld-are-zeros.ensures
+    cached_zeroed (in_use s.queue) (g.D.Device.meaning s.below) c.unheld_are_zeros.ensures

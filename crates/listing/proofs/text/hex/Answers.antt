@@ -5,7 +5,7 @@ use Rattle.std.proofs.lemmas.List.{take_all}
 use Rattle.listing.proofs.text.hex.Goals as goal
 
 pub loop-b-preserved : goal.loop-b-preserved
-loop-b-preserved c = turn two_digits c.args.bytes.now c.loop-b.b-index [] _ _ c.loop-b-test.true c.in-ok-push-digits.ensures c.loop-b.invariant
+loop-b-preserved c = turn two_digits c.args.bytes.now c.loop-b.b-index [] _ _ c.loop-b-test.true c.in_ok-push_digits.ensures c.loop-b.invariant
 
 pub returns : goal.returns
 returns c = c.loop-b.invariant ∙ ap (each two_digits) (take_all c.loop-b.b-index c.args.bytes.now c.loop-b-test.false)

@@ -3,7 +3,7 @@ use Rattle.slotted.proofs.index.enter.Goals as goal
 use Rattle.slotted.proofs.index.enter.Goals.{then-used-k-via-then-used-k, then-used-k-via-else-used-k+then-n-index, then-used-k-via-else-used-k+else-n-index+then-known}
 use Rattle.slotted.proofs.Steps.{enter_bad, enter_free, enter_used}
 use Rattle.slotted.proofs.Tables.{free_bad}
-use Rattle.std.proofs.lemmas.Bool.{both_ways, eq-eqb, eqb-true, not-false, not_true}
+use Rattle.std.proofs.lemmas.Bool.{both_ways, eq-eqb, eqb-true, not-false, not-true}
 use Rattle.slotted.specs.Records.{free_at, number_at, table_of, used_at}
 
 pub returns-then-blank : goal.returns-then-blank
@@ -23,7 +23,7 @@ unfolding used_at number_at
 returns-then-used-k c =
     let s = c.args.bytes.now in
     enter_bad (table_of s) c.args.k c.args.index.now c.args.used c.requires.counted c.requires.listed c.get32-n.result (sym c.marked.ensures ∙ c.if-not-marked.false) (sym c.get32-n.ensures)
-    (λ a b d. elim c.then-used-k.branch [ then-used-k-via-then-used-k w ↦ omega (arith, w.if-used-k.true) | then-used-k-via-else-used-k+then-n-index w ↦ omega (arith, w.if-n-index.true) | then-used-k-via-else-used-k+else-n-index+then-known w ↦ both_ways (eqb (get_or c.args.index.now c.get32-n.result 0) 0) (not_true _ (sym w.known.ensures ∙ w.if-known.true)) (eq-eqb _ _ d) ])
+    (λ a b d. elim c.then-used-k.branch [ then-used-k-via-then-used-k w ↦ omega (arith, w.if-used-k.true) | then-used-k-via-else-used-k+then-n-index w ↦ omega (arith, w.if-n-index.true) | then-used-k-via-else-used-k+else-n-index+then-known w ↦ both_ways (eqb (get_or c.args.index.now c.get32-n.result 0) 0) (not-true _ (sym w.known.ensures ∙ w.if-known.true)) (eq-eqb _ _ d) ])
 
 pub returns : goal.returns
 unfolding used_at number_at

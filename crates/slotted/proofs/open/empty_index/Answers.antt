@@ -10,5 +10,5 @@ returns c = record {
       (λ v. ((y : ℕ) → y ≡ 0 → y ≡ 0) → vec_items v ≡ replicate c.args.limit 0)
       (λ v. (n : ℕ) → n < c.args.limit → get_or (vec_items v) n 0 ≡ 0)
       (λ v p n l. ap (λ (xs : List ℕ). get_or xs n 0) (p (λ y h. h)) ∙ get_or-replicate c.args.limit n 0 0 l)
-      c.vec.ensures.exact;
+      c.vec.ensures.items_if_clones_equal;
 }

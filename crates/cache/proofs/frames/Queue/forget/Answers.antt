@@ -4,8 +4,8 @@ use Rattle.cache.proofs.frames.Queue.forget.Goals as goal
 use Rattle.cache.specs.After.{without}
 use Rattle.cache.specs.InUse.{in_use}
 
-pub returns-in-default : goal.returns-in-default
-returns-in-default c = forget_none (in_use c.args.self.now) c.args.n c.in-default.ensures.words
+pub returns-in_default : goal.returns-in_default
+returns-in_default c = forget_none (in_use c.args.self.now) c.args.n c.in_default.ensures.words
 
 pub sift-requires : goal.sift-requires
 sift-requires c =

@@ -2,8 +2,8 @@ use Rattle.std.proofs.Common.{sym, ◌∙◌, arith, rules}
 use Rattle.cache.proofs.Rings.{length_ring, ring_at}
 use Rattle.cache.proofs.frames.Queue.frame.Goals as goal
 
-pub overflow-add-self : goal.overflow-add-self
-overflow-add-self c =
+pub overflow_add-self : goal.overflow_add-self
+overflow_add-self c =
     let t = c.args.self.now in
     let n = length_ring t.table.frames t.start t.count in
     search rules

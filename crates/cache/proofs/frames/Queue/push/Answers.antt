@@ -4,12 +4,16 @@ use Rattle.cache.proofs.frames.Queue.push.Goals as goal
 use Rattle.cache.specs.InUse.{ring}
 use Rattle.cache.specs.declared.frames.Frame.{Frame}
 
-pub invariant-of-self : goal.invariant-of-self
-invariant-of-self c =
+pub invariant_of-self : goal.invariant_of-self
+invariant_of-self c =
     let t = c.args.self.now in
     let n = length_ring t.table.frames t.start t.count in
     let f : Frame = record { number = c.args.number; block = c.args.from.now } in
-    (t.inside, (omega arith, (whole_set t.table.frames c.put.new.self.frames ((t.start + t.count) % 8) f t.whole c.put.ensures.size (omega arith) c.requires.1 c.put.ensures.table, tt)))
+    record {
+      inside = t.inside;
+      room = omega arith;
+      whole = whole_set t.table.frames c.put.new.self.frames ((t.start + t.count) % 8) f t.whole c.put.ensures.size (omega arith) c.requires.1 c.put.ensures.table;
+    }
 
 pub returns : goal.returns
 returns c =

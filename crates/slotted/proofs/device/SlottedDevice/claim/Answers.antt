@@ -10,4 +10,4 @@ returns c =
     let low : c.args.n < limit_in s = omega (arith, d.sized) in
     let none : slot_in s c.args.n ≡ 0 = omega (arith, c.slot.ensures) in
     let free : 0 < left_in s = omega (arith, d.rest) in
-    claim_did s c.args.n low none free _ c.take-record.ensures
+    claim_did s c.args.n low none free _ c.take_record.ensures

@@ -4,8 +4,8 @@ use Rattle.slotted.proofs.device.SlottedDevice.write.Goals as goal
 use Rattle.slotted.proofs.Images.{slot_inside}
 use Rattle.slotted.specs.Image.{slot_in}
 
-pub put-block-requires : goal.put-block-requires
-put-block-requires c =
+pub put_block-requires : goal.put_block-requires
+put_block-requires c =
     let s = vec_items c.args.self.now.bytes in
     let k = c.slot-k.result in
     let e : slot_in s c.args.n ≡ suc (k - 1) = omega (arith, c.slot-k.ensures, c.if-k-eq0.false) in

@@ -20,36 +20,36 @@ scan-requires c =
     record {
       few = omega arith;
       listed = λ n l.
-          ap (λ (xs : List ℕ). get_or xs n 0) c.deref-mut.ensures.value
-          ∙ e.zeros n (omega (arith, e.len, c.deref-mut.ensures.len))
+          ap (λ (xs : List ℕ). get_or xs n 0) c.deref_mut.ensures.value
+          ∙ e.zeros n (omega (arith, e.len, c.deref_mut.ensures.len))
           ∙ sym (slot_start (table_of c.deref.result.now) n);
     }
 
-pub overflow-sub-result : goal.overflow-sub-result
-overflow-sub-result c =
+pub overflow_sub-result : goal.overflow_sub-result
+overflow_sub-result c =
     let size : length c.deref.result.now ≡ c.len-records.result = ap length c.deref.ensures.value ∙ (search rules) in
     omega (arith, c.in-Some.ensures.1, used_le (table_of c.deref.result.now) (records c.deref.result.now))
 
-pub invariant-of-result : goal.invariant-of-result
-invariant-of-result c =
+pub invariant_of-result : goal.invariant_of-result
+invariant_of-result c =
     let s = vec_items c.args.bytes in
     let index = c.scan.new.index in
     let long : length s ≡ c.len-records.result = search rules in
-    let wide : length index ≡ 65544 = omega (arith, c.in-Ok.ensures.len, c.deref-mut.ensures.len) in
+    let wide : length index ≡ 65544 = omega (arith, c.in-Ok.ensures.len, c.deref_mut.ensures.len) in
     let width : length index ≡ vec_len c.in-Ok.index = omega (arith, c.in-Ok.ensures.len) in
     let g : Scanned (table_of s) (records s) index (Some c.in-Some.used) = subst (λ (x : List ℕ). Scanned (table_of x) (records x) index (Some c.in-Some.used)) c.deref.ensures.value c.in-Some.ensures in
     let o = opened s index c.in-Some.used (omega arith) (omega arith) wide g in
-    let back = with_items_is c.in-Ok.index index width in (
-      c.in-Ok.ensures.len ∙ sym o.sized,
-      (
-        (λ n l. ap (λ (xs : List ℕ). get_or xs n 0) back ∙ o.listed n l),
-        (o.counted, (ap (λ (l : ℕ). l / 1030 - c.in-Some.used) (sym long) ∙ o.rest, tt)),
-      ),
-    )
+    let back = with_items_is c.in-Ok.index index width in
+    record {
+      sized = c.in-Ok.ensures.len ∙ sym o.sized;
+      listed = λ n l. ap (λ (xs : List ℕ). get_or xs n 0) back ∙ o.listed n l;
+      counted = o.counted;
+      rest = ap (λ (l : ℕ). l / 1030 - c.in-Some.used) (sym long) ∙ o.rest;
+    }
 
 pub unformed-requires-in-None : goal.unformed-requires-in-None
 unformed-requires-in-None c =
     let s = vec_items c.args.bytes in
     let index = c.scan.new.index in
-    let wide : length index ≡ 65544 = omega (arith, c.in-Ok.ensures.len, c.deref-mut.ensures.len) in
+    let wide : length index ≡ 65544 = omega (arith, c.in-Ok.ensures.len, c.deref_mut.ensures.len) in
     scan_bad s index wide (subst (λ (x : List ℕ). Scanned (table_of x) (records x) index None) c.deref.ensures.value c.in-None.ensures)

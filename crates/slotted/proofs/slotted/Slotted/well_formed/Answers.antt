@@ -9,4 +9,4 @@ pub returns : goal.returns
 returns c =
     let d = c.args.self.now in
     let s = vec_items d.bytes in
-    Decides-at (not c.is-empty.result) (well_formed s) (ap not c.is-empty.ensures ∙ formed_index s (vec_len d.index) d.sized) (formed_tells s)
+    Decides-at (not c.is_empty.result) (well_formed s) (ap not c.is_empty.ensures ∙ formed_index s (vec_len d.index) d.sized) (formed_tells s)

@@ -8,7 +8,7 @@ use Rattle.cache.specs.Shown.{shown, cached}
 use Rattle.cache.specs.Whole.{at}
 use Rattle.cache.specs.declared.frames.Frame.{Frame}
 use Rattle.devices.specs.Meaning.{Meaning, put}
-use Rattle.devices.specs.Step.{Call, Step, Kept, Wrote, write}
+use Rattle.devices.specs.Step.{Step, Kept, Wrote, write}
 use Rattle.devices.specs.Trace.{Account, Trace}
 use Rattle.faults.specs.declared.Fault.{Fault}
 use Rattle.std.proofs.lemmas.Bool.{eq-eqb, ne_eqb, both_ways}

@@ -5,7 +5,7 @@ use Rattle.cache.specs.Calls.{accepted, visible, own_read, fetches, read_calls}
 use Rattle.cache.specs.Shown.{cached}
 use Rattle.cache.specs.declared.frames.Frame.{Frame}
 use Rattle.devices.specs.Meaning.{Meaning}
-use Rattle.devices.specs.Step.{Call, Step, Filled, read}
+use Rattle.devices.specs.Step.{Step, Filled, read}
 use Rattle.devices.specs.Trace.{Account, Trace}
 use Rattle.faults.specs.declared.Fault.{Fault}
 use Rattle.std.proofs.lemmas.Bool.{eq-eqb, lt-ltb}

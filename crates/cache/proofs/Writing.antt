@@ -6,7 +6,7 @@ use Rattle.cache.specs.InUse.{newest}
 use Rattle.cache.specs.Shown.{shown, cached}
 use Rattle.cache.specs.declared.frames.Frame.{Frame}
 use Rattle.devices.specs.Meaning.{Meaning, put}
-use Rattle.devices.specs.Step.{Call, Kept, Wrote}
+use Rattle.devices.specs.Step.{Kept, Wrote}
 use Rattle.devices.specs.Trace.{Account, Trace}
 use Rattle.faults.specs.declared.Fault.{Fault}
 use Rattle.std.proofs.lemmas.Bool.{eq-eqb, lt-ltb}

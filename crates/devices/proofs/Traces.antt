@@ -1,4 +1,4 @@
-use Rattle.std.proofs.Common.{◌≡◌, ℕ, ◌⊎◌, List, [], ◌∷◌, ◌++◌, Ok, Err, Result, sym, refl, ap, subst, inl, inr, ⊎_elim, arith}
+use Rattle.std.proofs.Common.{◌≡◌, ℕ, List, [], ◌∷◌, ◌++◌, Ok, Err, Result, refl, ap, subst, inl, inr, ⊎_elim, arith}
 use Rattle.faults.specs.declared.Fault.{Fault}
 use Rattle.devices.specs.Meaning.{Meaning}
 use Rattle.devices.specs.Step.{Call, Step}

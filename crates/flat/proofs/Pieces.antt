@@ -1,8 +1,8 @@
 -- Blocks of bytes, and what a write over one leaves.
-use Rattle.std.proofs.Common.{◌≡◌, ℕ, ◌+◌, ◌-◌, ◌*◌, ◌/◌, ◌<◌, ◌≤◌, min, Bool, true, false, cond, eqb, ltb, ◌⊎◌, List, ◌++◌, length, take, drop, Ok, sym, refl, ap, ◌∙◌, inl, inr, ⊎_elim, append_assoc, arith, length-append}
+use Rattle.std.proofs.Common.{◌≡◌, ℕ, ◌+◌, ◌-◌, ◌*◌, ◌/◌, ◌<◌, ◌≤◌, min, Bool, cond, ltb, List, ◌++◌, length, take, drop, Ok, sym, refl, ap, ◌∙◌, ⊎_elim, append_assoc, arith, length-append}
 use mathlib.Core.Path.{fun_ext}
 use Rattle.devices.specs.Meaning.{Meaning, Sound, put as change}
-use Rattle.devices.specs.Step.{Kept, Stays, Wrote, read, write}
+use Rattle.devices.specs.Step.{Kept, Wrote, read, write}
 use Rattle.flat.specs.Blocks.{answered, block_at, blocks, flat, put}
 use Rattle.std.proofs.lemmas.List.{drop_at, drop-drop, length-drop, length-take-le, take-append-drop, take-append-le, take_at}
 use Rattle.std.proofs.lemmas.Slice.{between_is}

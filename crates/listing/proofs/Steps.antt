@@ -1,5 +1,5 @@
 -- Each pair that is shown leaves fewer to show.
-use Rattle.std.proofs.Common.{◌≡◌, ℕ, ◌+◌, ◌-◌, ◌*◌, ◌<◌, ◌≤◌, sym, ap, ◌∙◌, subst, ⊎_elim, arith}
+use Rattle.std.proofs.Common.{◌≡◌, ℕ, ◌+◌, ◌-◌, ◌*◌, ◌<◌, ◌≤◌, ap, ◌∙◌, ⊎_elim, arith}
 use Rattle.image.proofs.Images.{start_here}
 use Rattle.image.specs.Held.{start}
 use Rattle.std.proofs.lemmas.Bool.{cases_eq}

@@ -1,11 +1,10 @@
 -- A claim through a window.
-use Rattle.std.proofs.Common.{◌≡◌, ℕ, ◌+◌, ◌-◌, ◌<◌, ◌≤◌, min, Bool, true, false, cond, eqb, ltb, List, [], ◌∷◌, Ok, Err, Result, sym, refl, ap, ◌∙◌, subst, ⊎_elim, arith, eqb-true}
-use borrow.Author.Tests.{eqb-false}
+use Rattle.std.proofs.Common.{◌≡◌, ℕ, ◌+◌, ◌-◌, ◌<◌, min, Bool, true, false, cond, eqb, ltb, List, Ok, Err, Result, sym, refl, ap, ◌∙◌, ⊎_elim, arith}
 use mathlib.Core.Path.{fun_ext}
 use Rattle.devices.proofs.Traces.{last_call}
 use Rattle.devices.specs.Meaning.{Meaning, put}
-use Rattle.devices.specs.Step.{Call, Claimed, Failed, Kept, NotClaimed, Stays, Step, claim}
-use Rattle.devices.specs.Trace.{Account, Did, Trace}
+use Rattle.devices.specs.Step.{Claimed, Failed, Kept, NotClaimed, Stays, Step, claim}
+use Rattle.devices.specs.Trace.{Account, Trace}
 use Rattle.faults.specs.declared.Fault.{Fault}
 use Rattle.std.proofs.lemmas.Bool.{cases_eq, eq-eqb, ne_eqb, lt-ltb}
 use Rattle.window.specs.Part.{answered, asked, held_in, reach, seen}

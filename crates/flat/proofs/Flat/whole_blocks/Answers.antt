@@ -1,4 +1,4 @@
-use Rattle.std.proofs.Common.{◌≡◌, ℕ, ◌/◌, min, ap, ◌∙◌}
+use Rattle.std.proofs.Common.{ℕ, ◌/◌, min, ap, ◌∙◌}
 use Rattle.flat.specs.Blocks.{blocks}
 use Rattle.flat.proofs.Flat.whole_blocks.Goals as goal
 

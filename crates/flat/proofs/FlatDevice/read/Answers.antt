@@ -1,4 +1,4 @@
-use Rattle.std.proofs.Common.{◌≡◌, ℕ, ◌*◌, ◌<◌, List, length, take, drop, vec_items, refl, ap, ◌∙◌, arith}
+use Rattle.std.proofs.Common.{ℕ, ◌*◌, ◌<◌, List, length, take, drop, vec_items, refl, ap, ◌∙◌, arith}
 use Rattle.flat.proofs.Pieces.{block_inside, kept, read_accepted}
 use Rattle.flat.specs.Blocks.{blocks, flat}
 use Rattle.flat.proofs.FlatDevice.read.Goals as goal

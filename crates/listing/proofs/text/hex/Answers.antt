@@ -1,4 +1,4 @@
-use Rattle.std.proofs.Common.{◌≡◌, ℕ, List, [], length, take, sym, ap, ◌∙◌, arith}
+use Rattle.std.proofs.Common.{[], ap, ◌∙◌}
 use Rattle.listing.proofs.Texts.{turn}
 use Rattle.listing.specs.Text.{each, two_digits}
 use Rattle.std.proofs.lemmas.List.{take_all}

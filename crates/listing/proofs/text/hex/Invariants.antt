@@ -1,4 +1,4 @@
-use Rattle.std.proofs.Common.{◌≡◌, ◌∷◌, take, string_bytes}
+use Rattle.std.proofs.Common.{◌≡◌, take, string_bytes}
 use Rattle.listing.specs.Text.{each, two_digits}
 use Rattle.listing.proofs.text.hex.Given as goal
 

@@ -1,4 +1,4 @@
-use Rattle.std.proofs.Common.{◌≡◌, ℕ, List, [], ◌∷◌, ◌++◌, length, take, sym, refl, ap, ◌∙◌, arith, lit<}
+use Rattle.std.proofs.Common.{ℕ, List, [], ◌∷◌, ◌++◌, refl, ap, ◌∙◌, lit<}
 use Rattle.listing.proofs.Texts.{pushed, turn}
 use Rattle.listing.specs.Text.{each, shown_byte}
 use Rattle.std.proofs.lemmas.List.{take_all}

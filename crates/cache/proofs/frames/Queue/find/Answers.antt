@@ -1,4 +1,4 @@
-use Rattle.std.proofs.Common.{◌≡◌, ◌-◌, length, Some, None, sym, ap, ◌∙◌, arith, rules}
+use Rattle.std.proofs.Common.{◌-◌, Some, None, sym, ap, ◌∙◌, arith}
 use Rattle.cache.proofs.Rings.{length_ring, newest_is}
 use Rattle.cache.proofs.frames.Queue.find.Goals as goal
 use Rattle.cache.specs.InUse.{Newest, in_use}

@@ -1,4 +1,4 @@
-use Rattle.std.proofs.Common.{◌+◌, ◌%◌, List, ap, ◌∙◌, arith, rules}
+use Rattle.std.proofs.Common.{◌+◌, ◌%◌, List, ap, ◌∙◌, arith}
 use Rattle.cache.proofs.Rings.{length_ring, ring_push, whole_set}
 use Rattle.cache.proofs.frames.Queue.push.Goals as goal
 use Rattle.cache.specs.InUse.{ring}

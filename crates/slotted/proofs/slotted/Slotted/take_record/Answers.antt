@@ -1,4 +1,4 @@
-use Rattle.std.proofs.Common.{◌≡◌, ℕ, ◌+◌, ◌-◌, ◌*◌, List, length, get_or, set, vec_items, vec_len, sym, ap, ◌∙◌, arith}
+use Rattle.std.proofs.Common.{◌≡◌, ℕ, ◌+◌, ◌-◌, List, length, get_or, set, vec_items, vec_len, sym, ap, ◌∙◌, arith}
 use Rattle.slotted.proofs.Calls.{take_few, take_listed, take_room, took}
 use Rattle.slotted.proofs.slotted.Slotted.take_record.Goals as goal
 use Rattle.slotted.proofs.Takes.{take_left, take_limit, take_used}

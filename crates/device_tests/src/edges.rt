@@ -67,7 +67,7 @@ fn slotted_records(rt: HostRuntime) -> Result<(), Fail> {
     let bytes = device.into_bytes();
     let record = bytes.get(0..7).ok_or("a record")?;
     assert!(rt;
-        record == &[0x53, 0x44, 2, 1, 0, 0, 3],
+        record == [0x53, 0x44, 2, 1, 0, 0, 3].as_slice(),
         "mark, number, block"
     );
     assert_eq!(rt; bytes.get(1030).copied(), Some(0), "the second is free");

@@ -11,7 +11,7 @@ fn pairs(rt: HostRuntime) {
     assert_eq!(rt; page.pair(0), Some(((1023, 1), (1021, 2))));
     assert_eq!(rt; page.pair(1), Some(((1020, 1), (1020, 0))));
     assert_eq!(rt; page.pair(2), None);
-    assert!(rt; page.bytes() == &worked_page());
+    assert!(rt; page.bytes() == worked_page().as_slice());
 }
 
 #[test]
@@ -46,7 +46,7 @@ fn bad_page_is_blank(rt: HostRuntime) {
     assert!(rt; !page.is_good());
     assert_eq!(rt; page.count(), 0);
     assert_eq!(rt; page.find(b"a"), None);
-    assert!(rt; page.bytes() == &[0; 1024]);
+    assert!(rt; page.bytes() == [0; 1024].as_slice());
 }
 
 // Whether these bytes are the part at the place.

@@ -1,5 +1,5 @@
 use Rattle.std.proofs.Common.{◌≡◌, ℕ, zero, suc, ◌+◌, ◌*◌, ◌<◌, ◌≤◌, Bool, true, false, cond, List, [], ◌∷◌, length, take, filter, arith}
-use Rattle.std.specs.List.{AllByRecursion as All}
+use Rattle.std.specs.List.{AllByRecursion}
 use Rattle.std.proofs.ByRecursion.{all_kept_by, All-take, All-get_or, All-from_get_or}
 use Rattle.pages.specs.Page.{Pair}
 use Rattle.keys.specs.Same.{same}
@@ -11,7 +11,7 @@ none = ([], [])
 -- keys that differ, by recursion
 abbrev Diff : List Pair → Type 0
 Diff [] = Unit {0}
-Diff (p ∷ ps) = All (λ q. same p.0 q.0 ≡ false) ps × Diff ps
+Diff (p ∷ ps) = AllByRecursion (λ q. same p.0 q.0 ≡ false) ps × Diff ps
 
 diff_from : (ps : List Pair) → ((i j : ℕ) → (i < j) × (j < length ps) → same (key_in ps i) (key_in ps j) ≡ false) → Diff ps
 diff_from [] h = tt

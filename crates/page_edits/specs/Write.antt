@@ -2,7 +2,7 @@
 use Rattle.std.specs.Prelude.{◌≡◌, ℕ, ◌+◌, ◌-◌, ◌*◌, ◌/◌, ◌%◌, ◌<◌, ◌≤◌, false, List, [], ◌∷◌, ◌++◌, length, replicate, slice_index_or}
 use Rattle.keys.specs.Same.{same}
 use Rattle.pages.specs.Page.{Pair}
-use Rattle.std.specs.List.{AllByRecursion as All}
+use Rattle.std.specs.List.{AllByRecursion}
 
 -- a 16-bit number as two bytes, the low one first
 abbrev pub le2 : ℕ → List ℕ
@@ -42,6 +42,6 @@ key_in ps i = (slice_index_or ps i ([], [])).0
 
 -- a list fits a page: its keys differ, none is empty, and there is room
 pub record Fits (ps : List Pair) : Type 0 where
-  pub named : All (λ p. 0 < length p.0) ps
+  pub named : AllByRecursion (λ p. 0 < length p.0) ps
   pub apart : (i j : ℕ) → (i < j) × (j < length ps) → same (key_in ps i) (key_in ps j) ≡ false
   pub room : 2 + (4 * length ps + size ps) ≤ 1024

@@ -91,7 +91,7 @@ module _ (t : Table) where
     unfolding good_to
     all_good = Decides-below_and (good_at t limit) (λ k. good_at t limit k ≡ true) (good_to t limit) (λ k. (λ e. e, λ e. e)) refl (λ _. refl)
 
-    -- what goodAt says of a used record, and of another
+    -- what good_at says of a used record, and of another
     pub good_used : (k : ℕ) → good_at t limit k ≡ true → t.used k ≡ true → (used_to t k ≡ k) × (t.number k < limit) × (slot_to t (t.number k) k ≡ 0)
     unfolding good_at
     good_used k g e =

@@ -38,7 +38,7 @@ abbrev pub Scanned : Table → ℕ → List ℕ → Option ℕ → Type 0
 Scanned t k index None = good_to t (length index) k ≡ false
 Scanned t k index (Some used) = (good_to t (length index) k ≡ true) × (used ≡ used_to t k) × Listed t k index
 
--- the same as goodTo, each rule for itself
+-- the same as good_to, each rule for itself
 pub record Good (t : Table) (limit many : ℕ) : Type 0 where
   pub marks : (k : ℕ) → k < many → t.used k ≡ false → t.free k ≡ true
   pub order : (j k : ℕ) → j < k → k < many → t.used k ≡ true → t.used j ≡ true

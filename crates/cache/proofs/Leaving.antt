@@ -21,7 +21,7 @@ evict_block f q d e h eh eb =
     fun_ext (λ k.
     ap₂ (λ (t : ℕ → Bool) (b : ℕ → List ℕ). cond (t k) (shown q k (b k)) (b k)) eh eb
     ∙ if_false (d.held k) (shown q k (put d.block f.number f.block k)) (put d.block f.number f.block k) (d.block k)
-    (λ un-k. ap (λ t. cond t f.block (d.block k)) (apart d k f.number false un-k (λ un. both_ways (d.held f.number) un h))))
+    (λ un_k. ap (λ t. cond t f.block (d.block k)) (apart d k f.number false un_k (λ un. both_ways (d.held f.number) un h))))
 
 drop_block : (f : Frame) (q : List Frame) (d : Meaning) → d.held f.number ≡ false → (cached q d).block ≡ (cached (f ∷ q) d).block
 drop_block f q d h =

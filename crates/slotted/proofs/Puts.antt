@@ -36,24 +36,24 @@ module _ (s : List ℕ) (i : ℕ) (bs : List ℕ) (room : i + length bs ≤ leng
   part_apart w p h =
       same_lists _ _ (long w p)
       (λ k d l.
-      let in-w : k < w = omega (arith, length-take w (drop p (put s i bs))) in
-      get_or-take w (drop p (put s i bs)) k d in-w
+      let in_w : k < w = omega (arith, length-take w (drop p (put s i bs))) in
+      get_or-take w (drop p (put s i bs)) k d in_w
       ∙ get_or-drop p (put s i bs) k d
       ∙ put_apart (p + k) d (⊎_elim (λ q. inl (omega arith)) (λ q. inr (omega arith)) h)
       ∙ sym (get_or-drop p s k d)
-      ∙ sym (get_or-take w (drop p s) k d in-w))
+      ∙ sym (get_or-take w (drop p s) k d in_w))
 
   pub part_within : (w p : ℕ) → p + w ≤ length bs → take w (drop (i + p) (put s i bs)) ≡ take w (drop p bs)
   part_within w p h =
       same_lists _ _ (simp (length-take, length-drop) (omega (arith, length_put)))
       (λ k d l.
-      let in-w : k < w = omega (arith, length-take w (drop (i + p) (put s i bs))) in
-      get_or-take w (drop (i + p) (put s i bs)) k d in-w
+      let in_w : k < w = omega (arith, length-take w (drop (i + p) (put s i bs))) in
+      get_or-take w (drop (i + p) (put s i bs)) k d in_w
       ∙ get_or-drop (i + p) (put s i bs) k d
       ∙ ap (λ (x : ℕ). get_or (put s i bs) x d) (omega arith)
       ∙ put_in (p + k) d (omega arith)
       ∙ sym (get_or-drop p bs k d)
-      ∙ sym (get_or-take w (drop p bs) k d in-w))
+      ∙ sym (get_or-take w (drop p bs) k d in_w))
 
 -- two writes side by side are one
 pub put_put : (s : List ℕ) (i j : ℕ) (xs ys : List ℕ) → i + length xs + length ys ≤ length s → j ≡ i + length xs → put (put s i xs) j ys ≡ put s i (xs ++ ys)

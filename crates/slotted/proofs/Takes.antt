@@ -210,12 +210,12 @@ module _ (s : List ℕ) (n : ℕ) (low : n < limit_in s) (none : slot_in s n ≡
 
   pub claimed_new : Claimed (meaning_of s) n (meaning_of new)
   claimed_new =
-      let not-held = slot_unheld s n none in
+      let not_held = slot_unheld s n none in
       record {
         stays = record { limit = take_limit; layer = refl; spent = refl; for_good = λ h. h };
         range = low;
-        old_held = λ h. never (held_in s n) h not-held;
-        old_left = λ h. never (held_in s n) h not-held;
+        old_held = λ h. never (held_in s n) h not_held;
+        old_left = λ h. never (held_in s n) h not_held;
         new_room = λ _. free;
         new_held = λ _. fun_ext held_put;
         new_left = λ _. take_left;

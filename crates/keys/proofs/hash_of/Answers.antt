@@ -4,14 +4,14 @@ use Rattle.std.proofs.lemmas.List.{take_all}
 use Rattle.keys.specs.Hash.{step, from, hash}
 use Rattle.keys.proofs.hash_of.Goals as goal
 
-from-folded : (h : ℕ) (bs : List ℕ) → from h bs ≡ fold step h bs
-from-folded h [] = refl
-from-folded h (b ∷ bs) = from-folded (step h b) bs
+from_folded : (h : ℕ) (bs : List ℕ) → from h bs ≡ fold step h bs
+from_folded h [] = refl
+from_folded h (b ∷ bs) = from_folded (step h b) bs
 
-hash-more : (bs : List ℕ) (i : ℕ) → i < length bs → hash (take (i + 1) bs) ≡ step (hash (take i bs)) (get_or bs i 0)
+hash_more : (bs : List ℕ) (i : ℕ) → i < length bs → hash (take (i + 1) bs) ≡ step (hash (take i bs)) (get_or bs i 0)
 unfolding hash
-hash-more bs i h =
-    from-folded 0 (take (i + 1) bs) ∙ fold_more step 0 bs i 0 h ∙ ap (λ n. step n (get_or bs i 0)) (sym (from-folded 0 (take i bs)))
+hash_more bs i h =
+    from_folded 0 (take (i + 1) bs) ∙ fold_more step 0 bs i 0 h ∙ ap (λ n. step n (get_or bs i 0)) (sym (from_folded 0 (take i bs)))
 
 wraps : (b h : ℕ) → (b + (h * 65599) % 4294967296) % 4294967296 ≡ (b + 65599 * h) % 2 ^ 32
 wraps b h = omega arith
@@ -22,8 +22,12 @@ loop-b-init c = refl
 
 pub loop-b-preserved : goal.loop-b-preserved
 loop-b-preserved c =
-    let w = wraps c.from.result c.loop-b.h in
-    let m = hash-more c.args.key.now c.loop-b.b-index (omega arith) in cc
+    let key = c.args.key.now in
+    let i = c.loop-b.b-index in
+    wraps c.from.result c.loop-b.h
+    ∙ ap (λ (b : ℕ). step c.loop-b.h b) c.from.ensures
+    ∙ ap (λ (h : ℕ). step h (get_or key i 0)) c.loop-b.invariant
+    ∙ sym (hash_more key i (omega arith))
 
 pub returns : goal.returns
 returns c = search (rules, take_all)

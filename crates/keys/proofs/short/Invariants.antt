@@ -1,5 +1,5 @@
-use Rattle.std.proofs.Common.{◌≡◌, ℕ, ◌*◌, length, get_or}
-use Rattle.keys.specs.Print.{blends, w8}
+use Rattle.std.proofs.Common.{◌≡◌, ℕ, length, get_or}
+use Rattle.keys.specs.Print.{blends}
 use Rattle.keys.proofs.short.Given as goal
 
 abbrev pub invariant-loop-i : goal.invariant-loop-i

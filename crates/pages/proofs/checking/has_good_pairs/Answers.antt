@@ -9,8 +9,8 @@ use Rattle.std.proofs.lemmas.List.{length-set}
 use Rattle.std.proofs.lemmas.Bool.{leb-true, le-leb}
 
 -- the print of the key at hand
-print-is : (c : goal.Joined-seen-print-ne0) → c.fingerprint-print.result ≡ print (key_of c.args.page.now c.loop-k.k)
-print-is c = c.fingerprint-print.ensures.value ∙ ap print (key_is c.args.page.now c.loop-k.k _ _ c.get16-at.ensures.value c.loop-k.invariant.0)
+print_is : (c : goal.Joined-seen-print-ne0) → c.fingerprint-print.result ≡ print (key_of c.args.page.now c.loop-k.k)
+print_is c = c.fingerprint-print.ensures.value ∙ ap print (key_is c.args.page.now c.loop-k.k _ _ c.get16-at.ensures.value c.loop-k.invariant.0)
 
 fresh : (c : goal.Joined-seen-print-ne0) (i : ℕ) → i < c.loop-k.k → same (key_of c.args.page.now i) (key_of c.args.page.now c.loop-k.k) ≡ false
 fresh c i lt =
@@ -18,7 +18,7 @@ fresh c i lt =
       | then-seen-print-ne0+in_default w ↦
           ap (λ (k : List ℕ). same (key_of c.args.page.now i) k) (sym (key_is c.args.page.now c.loop-k.k _ _ c.get16-at.ensures.value c.loop-k.invariant.0))
           ∙ w.in_default.ensures i lt
-      | else-seen-print-ne0 w ↦ unseen c.args.page.now c.loop-k.seen i c.loop-k.k _ (print-is c) (c.loop-k.invariant.4 i lt) w.if-seen-print-ne0.false
+      | else-seen-print-ne0 w ↦ unseen c.args.page.now c.loop-k.seen i c.loop-k.k _ (print_is c) (c.loop-k.invariant.4 i lt) w.if-seen-print-ne0.false
     ]
 
 pub loop-k-preserved : goal.loop-k-preserved
@@ -33,7 +33,7 @@ loop-k-preserved c =
       apart_more page k c.loop-k.invariant.3 (fresh c),
       below_more _ _
           (λ i h. stays_one seen _ _ lt (c.loop-k.invariant.4 i h))
-          (now_one seen _ _ (print-is c) lt),
+          (now_one seen _ _ (print_is c) lt),
       length-set seen _ 1 ∙ c.loop-k.invariant.5,
     )
 

@@ -1,11 +1,15 @@
-use Rattle.std.proofs.Common.{◌≡◌, List, ℕ, Some, inr, subst, rules}
+use Rattle.std.proofs.Common.{◌≡◌, ℕ, List, Some, inr, subst, rules}
 use Rattle.bench_api.proofs.sym_find.Goals as goal
+use Rattle.bench_api.specs.Answers.{StartsAt}
 use Rattle.pages.specs.Page.{Good}
 use Rattle.pages.specs.Read.{Found, Place}
 
+-- a key that is found starts at its place, on a page read as it is
+starts : (page read key : List ℕ) (p : Place) (r : ℕ) → Good page → read ≡ page → Found read key (Some p) → r ≡ p.0 → StartsAt page key r
+starts page read key p r good same found at = inr (inr (p, good, subst (λ (s : List ℕ). Found s key (Some p)) same found, at))
+
 pub returns-in-Some : goal.returns-in-Some
 returns-in-Some c =
-    let place : Place = (c.in-Some.offset, c.in-Some.field-0-1) in
     let good : Good c.args.page.now = search rules in
     let same : c.read-pairs.result.bytes.now ≡ c.args.page.now = search rules in
-    inr (inr (place, good, subst (λ (s : List ℕ). Found s c.args.key.now (Some place)) same c.in-Some.ensures, c.from.ensures))
+    starts c.args.page.now _ c.args.key.now _ _ good same c.in-Some.ensures c.from.ensures

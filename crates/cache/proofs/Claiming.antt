@@ -1,24 +1,13 @@
 -- A claim, and the frames that it frees.
-use Rattle.std.proofs.Common.{◌≡◌, ℕ, zero, suc, ◌+◌, ◌<◌, ◌≤◌, Bool, true, false, cond, eqb, List, [], ◌∷◌, ◌++◌, length, take, drop, None, sym, refl, ap, ◌∙◌, subst, ap₂, append_assoc, add-one, arith, drop-cons, take-suc}
+use Rattle.std.proofs.Common.{◌≡◌, ℕ, suc, ◌+◌, ◌<◌, ◌≤◌, Bool, true, false, cond, eqb, ◌≢◌, List, [], ◌∷◌, length, drop, sym, refl, ap, ◌∙◌, subst, ap₂, add-one, arith, drop-cons}
 use mathlib.Core.Path.{fun_ext}
 use Rattle.cache.specs.After.{without}
-use Rattle.cache.specs.InUse.{Newest}
 use Rattle.cache.specs.Shown.{shown, cached}
 use Rattle.cache.specs.Whole.{none, at}
 use Rattle.cache.specs.declared.frames.Frame.{Frame}
 use Rattle.devices.specs.Meaning.{Meaning, put}
 use Rattle.devices.specs.Step.{Claimed}
-use Rattle.std.proofs.lemmas.List.{take_all}
 use Rattle.std.proofs.lemmas.Bool.{eqb-true, ne_eqb}
-
-same_without : (q : List Frame) (n : ℕ) → Newest q n None → without q n ≡ q
-same_without [] n h = refl
-same_without (f ∷ q) n h =
-    ap (λ t. cond t (without q n) (f ∷ without q n)) (ne_eqb n f.number (λ e. h 0 (omega arith) (sym e)))
-    ∙ ap (λ (o : List Frame). f ∷ o) (same_without q n (λ j l e. h (suc j) (omega arith) e))
-
-pub forget_none : (q : List Frame) (n : ℕ) → Newest q n None → q ≡ without q n
-forget_none q n h = sym (same_without q n h)
 
 without_by : (f : Frame) (q o : List Frame) (n k : ℕ) (b : List ℕ) (t : Bool) → eqb n f.number ≡ t → eqb k n ≡ false → ((c : List ℕ) → shown o k c ≡ shown q k c) → shown (cond t o (f ∷ o)) k b ≡ shown q k (cond (eqb k f.number) f.block b)
 without_by f q o n k b true e h rest =
@@ -68,30 +57,15 @@ claimed_new q p d e n un s c =
       backing = c.backing;
     })
 
-without_more : (xs ys : List Frame) (n : ℕ) → without (xs ++ ys) n ≡ without xs n ++ without ys n
-without_more [] ys n = refl
-without_more (f ∷ xs) ys n = by (eqb n f.number) (without_more xs ys n)
+-- the next frame is kept, or left out
+pub next_kept : (q : List Frame) (f : Frame) (i n : ℕ) → i < length q → f ≡ at q i → f.number ≢ n → without (drop i q) n ≡ f ∷ without (drop (i + 1) q) n
+next_kept q f i n h is other =
+    rw (add-one, drop-cons q i none h, ← is, ne_eqb n f.number (λ e. other (sym e)))
+
+pub length_without : (q : List Frame) (n : ℕ) → length (without q n) ≤ length q
+length_without [] n = omega arith
+length_without (f ∷ q) n = by (eqb n f.number) (length_without q n)
   where
-    by : (t : Bool) → without (xs ++ ys) n ≡ without xs n ++ without ys n → cond t (without (xs ++ ys) n) (f ∷ without (xs ++ ys) n) ≡ cond t (without xs n) (f ∷ without xs n) ++ without ys n
-    by true e = e
-    by false e = ap (λ (o : List Frame). f ∷ o) e
-
--- one more frame sifted
-pub sifted : (q o p : List Frame) (i n : ℕ) → i < length q → o ≡ drop i q ++ without (take i q) n → p ≡ drop 1 o ++ without (at o 0 ∷ []) n → p ≡ drop (i + 1) q ++ without (take (i + 1) q) n
-sifted q o p i n h eo ep =
-    let cut : drop i q ≡ at q i ∷ drop (i + 1) q = rw add-one (drop-cons q i none h) in
-    let all : o ≡ (at q i ∷ drop (i + 1) q) ++ without (take i q) n = eo ∙ ap (λ (x : List Frame). x ++ without (take i q) n) cut in
-    let more : take (i + 1) q ≡ take i q ++ at q i ∷ [] = rw add-one (take-suc q i none h) in
-    ep
-    ∙ ap (λ (x : List Frame). drop 1 x ++ without (at x 0 ∷ []) n) all
-    ∙ append_assoc (drop (i + 1) q) (without (take i q) n) (without (at q i ∷ []) n)
-    ∙ ap (λ (x : List Frame). drop (i + 1) q ++ x) (sym (without_more (take i q) (at q i ∷ []) n) ∙ sym (ap (λ (x : List Frame). without x n) more))
-
-drop_all : (q : List Frame) (i : ℕ) → length q ≤ i → drop i q ≡ []
-drop_all [] zero h = refl
-drop_all [] (suc i) h = refl
-drop_all (f ∷ q) zero h = let no : ⊥ = omega arith in elim no [ ]
-drop_all (f ∷ q) (suc i) h = drop_all q i (omega arith)
-
-pub sifted_all : (q : List Frame) (i n : ℕ) → length q ≤ i → drop i q ++ without (take i q) n ≡ without q n
-sifted_all q i n h = ap₂ (λ (x y : List Frame). x ++ without y n) (drop_all q i h) (take_all i q h)
+    by : (t : Bool) → length (without q n) ≤ length q → length (cond t (without q n) (f ∷ without q n)) ≤ suc (length q)
+    by true h = omega arith
+    by false h = omega arith

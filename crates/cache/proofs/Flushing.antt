@@ -1,11 +1,10 @@
 -- A flush.
-use Rattle.std.proofs.Common.{◌≡◌, ℕ, ◌<◌, Bool, cond, List, [], ◌∷◌, ◌++◌, length, drop, Ok, Err, Result, sym, refl, ap, ◌∙◌, subst, ap₂, inl, inr, ⊎_elim, arith}
+use Rattle.std.proofs.Common.{◌≡◌, ℕ, Bool, cond, List, [], ◌∷◌, ◌++◌, Ok, Err, Result, sym, refl, ap, ◌∙◌, subst, ap₂, inl, inr, ⊎_elim}
 use Rattle.cache.proofs.Leaving.{leave_kept, leave_stop}
 use Rattle.cache.proofs.Showing.{bare, kept_then, cached_kept}
 use Rattle.cache.specs.After.{Drained}
 use Rattle.cache.specs.Calls.{leaves, flush_calls}
 use Rattle.cache.specs.Shown.{cached}
-use Rattle.cache.specs.Whole.{at}
 use Rattle.cache.specs.declared.frames.Frame.{Frame}
 use Rattle.devices.proofs.Traces.{trace_then, trace_stop, trace_meaning}
 use Rattle.devices.specs.Meaning.{Meaning}
@@ -65,19 +64,3 @@ drained_meaning steps M (f ∷ q) d (Err x) p e s =
     (λ t. inl (trace_meaning {X = Unit} steps M (leaves f (M d)) d e (Ok tt) (Err x) t.0, t.1, t.2))
     (λ t. inr (M t.0, trace_meaning {X = Unit} steps M (leaves f (M d)) d t.0 (Ok tt) (Ok tt) t.1, drained_meaning steps M q t.0 (Err x) p e t.2))
     s
-
--- one more frame has left
-pub drained_more : {S : Type 0} (did : Account S) (M : S → Meaning) (q o : List Frame) (d m : S) (r : Result Unit Fault) (p : List Frame) (e : S) → 0 < length q → Trace {X = Unit} did d (leaves (at q 0) (M d)) (Ok tt) (Ok tt) m → o ≡ drop 1 q → Drained did M o m r p e → Drained did M q d r p e
-drained_more did M [] o d m r p e h t s u = let no : ⊥ = omega arith in elim no [ ]
-drained_more did M (f ∷ q) o d m (Ok x) p e h t s u = (m, t, subst (λ (w : List Frame). Drained did M w m (Ok x) p e) s u)
-drained_more did M (f ∷ q) o d m (Err x) p e h t s u = inr (m, t, subst (λ (w : List Frame). Drained did M w m (Err x) p e) s u)
-
--- it is refused
-pub drained_stop : {S : Type 0} (did : Account S) (M : S → Meaning) (q p : List Frame) (d : S) (x : Fault) (e : S) → 0 < length q → Trace {X = Unit} did d (leaves (at q 0) (M d)) (Ok tt) (Err x) e → Failed x (M e) → p ≡ q → Drained did M q d (Err x) p e
-drained_stop did M [] p d x e h t b s = let no : ⊥ = omega arith in elim no [ ]
-drained_stop did M (f ∷ q) p d x e h t b s = inl (t, b, s)
-
--- none is left
-pub drained_end : {S : Type 0} (did : Account S) (M : S → Meaning) (q : List Frame) (d : S) (r : Result Unit Fault) (e : S) → length q ≡ 0 → did d flush r e → Drained did M q d r q e
-drained_end did M [] d r e h s = (s, refl)
-drained_end did M (f ∷ q) d r e h s = let no : ⊥ = omega arith in elim no [ ]

@@ -1,17 +1,15 @@
 -- A frame leaves.
-use Rattle.std.proofs.Common.{◌≡◌, ℕ, ◌-◌, ◌<◌, Bool, true, false, cond, eqb, List, [], ◌∷◌, length, drop, IfOk, Ok, Err, Result, sym, refl, ap, ◌∙◌, subst, ap₂, ⊎_elim, arith, length-drop, rules}
+use Rattle.std.proofs.Common.{◌≡◌, ℕ, Bool, true, false, cond, eqb, List, [], ◌∷◌, Ok, Err, Result, sym, refl, ap, ◌∙◌, subst, ap₂, ⊎_elim, rules}
 use mathlib.Core.Path.{fun_ext}
-use Rattle.cache.proofs.Showing.{if_false, if_true, cached_kept}
-use Rattle.cache.specs.After.{popped, roomed}
-use Rattle.cache.specs.Calls.{leaves, room_calls}
+use Rattle.cache.proofs.Showing.{if_false, if_true}
+use Rattle.cache.specs.Calls.{leaves}
 use Rattle.cache.specs.Shown.{shown, cached}
-use Rattle.cache.specs.Whole.{at}
 use Rattle.cache.specs.declared.frames.Frame.{Frame}
 use Rattle.devices.specs.Meaning.{Meaning, put}
 use Rattle.devices.specs.Step.{Step, Kept, Wrote, write}
-use Rattle.devices.specs.Trace.{Account, Trace}
+use Rattle.devices.specs.Trace.{Trace}
 use Rattle.faults.specs.declared.Fault.{Fault}
-use Rattle.std.proofs.lemmas.Bool.{eq-eqb, ne_eqb, both_ways}
+use Rattle.std.proofs.lemmas.Bool.{ne_eqb, both_ways}
 
 apart : (d : Meaning) (k n : ℕ) (h : Bool) → d.held k ≡ h → (d.held n ≡ h → ⊥) → eqb k n ≡ false
 apart d k n h e other = ne_eqb k n (λ (same : k ≡ n). other (ap d.held (sym same) ∙ e))
@@ -39,32 +37,12 @@ leave_kept f q d e t = go (d.held f.number) refl t
         subst (λ (m : Meaning). Kept (cached (f ∷ q) d) (cached q m)) (sym t.1)
         (record { stays = record { limit = refl; layer = refl; spent = refl; for_good = λ o. o }; held = refl; left = refl; block = drop_block f q d h })
 
-pub leave_kept_at : (q : List Frame) (d e : Meaning) → 0 < length q → Trace {X = Unit} Step d (leaves (at q 0) d) (Ok tt) (Ok tt) e → Kept (cached q d) (cached (drop 1 q) e)
-leave_kept_at [] d e h t = let no : ⊥ = omega arith in elim no [ ]
-leave_kept_at (f ∷ q) d e h t = leave_kept f q d e t
-
 pub leave_stop : (f : Frame) (d e : Meaning) (x : Fault) → Trace {X = Unit} Step d (leaves f d) (Ok tt) (Err x) e → Kept d e
 leave_stop f d e x t = go (d.held f.number) t
   where
-    never : (o : Result Unit Fault) → o ≡ Err x → o ≡ Ok tt → ⊥
-    never o a b = let z : ◌≡◌ {A = ℕ} 0 1 = cc in omega arith
+    never : ◌≡◌ {A = Result Unit Fault} (Err x) (Ok tt) → ⊥
+    never h = cc
 
     go : (h : Bool) → Trace {X = Unit} Step d (cond h (write f.number f.block ∷ []) []) (Ok tt) (Err x) e → Kept d e
-    go true t = ⊎_elim (λ s. s.0) (λ u. let no : ⊥ = never (Err x) refl u.2.0 in elim no [ ]) t
-    go false t = let no : ⊥ = never (Err x) refl t.0 in elim no [ ]
-
--- whether a frame left or that was refused, the cache shows the same
-pub left_kept : (q p : List Frame) (d e : Meaning) (r : Result Unit Fault) → 0 < length q → Trace {X = Unit} Step d (leaves (at q 0) d) (Ok tt) r e → p ≡ popped q r → Kept (cached q d) (cached p e)
-left_kept q p d e (Ok _) h t s = subst (λ (o : List Frame). Kept (cached q d) (cached o e)) (sym s) (leave_kept_at q d e h t)
-left_kept q p d e (Err x) h t s = subst (λ (o : List Frame). Kept (cached q d) (cached o e)) (sym s) (cached_kept q d e (leave_stop (at q 0) d e x t))
-
-pub roomed_full : (q : List Frame) (r : Result Unit Fault) → length q ≡ 8 → popped q r ≡ roomed q r
-roomed_full q (Ok _) h = let k : 1 ≡ length q - 7 = omega arith in ap (λ n. drop n q) k
-roomed_full q (Err _) h = refl
-
-pub room_full : (q p : List Frame) (r : Result Unit Fault) → length q ≡ 8 → p ≡ popped q r → IfOk r (λ _. length p < 8)
-room_full q p (Ok _) h s = omega (arith, ap length s, length-drop 1 q)
-room_full q p (Err _) h s = tt
-
-pub room_calls_full : {S : Type 0} (did : Account S) (M : S → Meaning) (q : List Frame) (d e : S) (r : Result Unit Fault) → length q ≡ 8 → Trace {X = Unit} did d (leaves (at q 0) (M d)) (Ok tt) r e → Trace {X = Unit} did d (room_calls q (M d)) (Ok tt) r e
-room_calls_full did M q d e r h t = subst (λ (b : Bool). Trace {X = Unit} did d (cond b (leaves (at q 0) (M d)) []) (Ok tt) r e) (sym (eq-eqb (length q) 8 h)) t
+    go true t = ⊎_elim (λ s. s.0) (λ u. absurd (never u.2.0)) t
+    go false t = absurd (never t.0)

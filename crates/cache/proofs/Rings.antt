@@ -1,16 +1,16 @@
 -- The frames of a ring, and the newest of a number.
-use Rattle.std.proofs.Common.{◌≡◌, ℕ, zero, suc, ◌+◌, ◌%◌, ◌<◌, ◌≤◌, Bool, true, false, cond, eqb, ◌≢◌, List, [], ◌∷◌, ◌++◌, length, set, Some, None, Option, sym, refl, ap, ◌∙◌, ap₂, add-one, arith, get_or-set_other, get_or-set_same}
+use Rattle.std.proofs.Common.{◌≡◌, ℕ, zero, suc, ◌+◌, ◌%◌, ◌<◌, ◌≤◌, true, false, cond, eqb, ◌≢◌, List, [], ◌∷◌, ◌++◌, length, set, Some, None, Option, sym, refl, ap, ◌∙◌, ap₂, add-one, arith, get_or-set_other, get_or-set_same}
 use Rattle.cache.specs.InUse.{Newest, newest, or_first, ring}
 use Rattle.cache.specs.Whole.{Whole, at, none}
 use Rattle.cache.specs.declared.frames.Frame.{Frame}
-use Rattle.std.proofs.lemmas.Bool.{both_ways, eq-eqb, eqb-true, ne_eqb}
+use Rattle.std.proofs.lemmas.Bool.{eq-eqb, ne_eqb}
 
 pub length_ring : (fs : List Frame) (s c : ℕ) → length (ring fs s c) ≡ c
 length_ring fs s zero = refl
 length_ring fs s (suc c) = ap suc (length_ring fs (s + 1) c)
 
 pub ring_at : (fs : List Frame) (s c i : ℕ) → i < c → at (ring fs s c) i ≡ at fs ((s + i) % 8)
-ring_at fs s zero i h = let no : ⊥ = omega arith in elim no [ ]
+ring_at fs s zero i h = absurd (omega arith)
 ring_at fs s (suc c) zero h = ap (λ k. at fs (k % 8)) (omega arith)
 ring_at fs s (suc c) (suc i) h = ring_at fs (s + 1) c i (omega arith) ∙ ap (λ k. at fs (k % 8)) (omega arith)
 
@@ -34,7 +34,7 @@ ring_apart fs s (suc c) k f h =
 
 -- the frame at one place is overwritten
 pub ring_set : (fs : List Frame) (s c i : ℕ) (f : Frame) → length fs ≡ 8 → c ≤ 8 → i < c → ring (set fs ((s + i) % 8) f) s c ≡ set (ring fs s c) i f
-ring_set fs s zero i f n b h = let no : ⊥ = omega arith in elim no [ ]
+ring_set fs s zero i f n b h = absurd (omega arith)
 ring_set fs s (suc c) zero f n b h =
     let e : (s + 0) % 8 ≡ s % 8 = ap (λ j. j % 8) (omega arith) in
     let l : s % 8 < length fs = omega arith in
@@ -55,31 +55,13 @@ ring_push fs s c f n h =
     ∙ ring_more (set fs ((s + c) % 8) f) s c
     ∙ ap₂ (λ q (g : Frame). q ++ g ∷ []) (ring_apart fs s c ((s + c) % 8) f (λ i l e. omega arith)) (get_or-set_same fs ((s + c) % 8) f none k)
 
--- a whole block is put into a table of whole blocks
-pub whole_set : (fs gs : List Frame) (k : ℕ) (f : Frame) → Whole fs → length fs ≡ 8 → k < 8 → length f.block ≡ 1024 → gs ≡ set fs k f → Whole gs
-whole_set fs gs k f all size inside whole is i h = by (eqb i k) refl
-  where
-    by : (t : Bool) → eqb i k ≡ t → length (at gs i).block ≡ 1024
-    by true e =
-        let same : i ≡ k = eqb-true i k e in
-        let l : k < length fs = omega arith in
-        ap (λ (xs : List Frame). length (at xs i).block) is
-        ∙ ap (λ j. length (at (set fs k f) j).block) same
-        ∙ ap (λ (g : Frame). length g.block) (get_or-set_same fs k f none l)
-        ∙ whole
-    by false e =
-        let ne : i ≢ k = λ (same : i ≡ k). both_ways (eqb i k) e (eq-eqb i k same) in
-        ap (λ (xs : List Frame). length (at xs i).block) is
-        ∙ ap (λ (g : Frame). length g.block) (get_or-set_other fs k i f none ne)
-        ∙ all i h
-
 -- the frames in use are whole
 pub ring_whole : (fs : List Frame) (s c i : ℕ) → Whole fs → i < c → length (at (ring fs s c) i).block ≡ 1024
 ring_whole fs s c i all h = ap (λ (f : Frame). length f.block) (ring_at fs s c i h) ∙ all ((s + i) % 8) (omega arith)
 
 -- what is so in words is the newest
 pub newest_is : (q : List Frame) (n : ℕ) (r : Option ℕ) → Newest q n r → r ≡ newest q n
-newest_is [] n (Some i) h = let no : ⊥ = omega arith in elim no [ ]
+newest_is [] n (Some i) h = absurd (omega arith)
 newest_is [] n None h = refl
 newest_is (f ∷ q) n None h =
     let rest : None ≡ newest q n = newest_is q n None (λ j l e. h (suc j) (omega arith) e) in

@@ -2,12 +2,11 @@
 use Rattle.std.proofs.Common.{◌≡◌, ℕ, zero, suc, ◌<◌, Bool, true, false, cond, eqb, List, [], ◌∷◌, ◌++◌, length, set, Some, None, Option, sym, refl, ap, ◌∙◌, ap₂, arith}
 use mathlib.Core.Path.{fun_ext}
 use Rattle.cache.specs.InUse.{Newest}
-use Rattle.cache.specs.Shown.{shown, cached, renamed, Shows}
+use Rattle.cache.specs.Shown.{shown, cached, Shows}
 use Rattle.cache.specs.Whole.{at}
 use Rattle.cache.specs.declared.frames.Frame.{Frame}
-use Rattle.devices.specs.Meaning.{Meaning, put, Sound, Zeroed}
+use Rattle.devices.specs.Meaning.{Meaning, put, Sound}
 use Rattle.devices.specs.Step.{Kept}
-use Rattle.faults.specs.declared.Layer.TheVariants.{Cache}
 use Rattle.std.proofs.lemmas.Bool.{eqb-true, eq-eqb, ne_eqb, both_ways}
 
 pub shown_none : (q : List Frame) (n : ℕ) (b : List ℕ) → Newest q n None → shown q n b ≡ b
@@ -21,7 +20,7 @@ shown_more [] f k b = refl
 shown_more (g ∷ q) f k b = shown_more q f k (cond (eqb k g.number) g.block b)
 
 pub shown_set : (q : List Frame) (n i k : ℕ) (bytes b : List ℕ) → Newest q n (Some i) → shown (set q i (record { number = n; block = bytes })) k b ≡ cond (eqb k n) bytes (shown q k b)
-shown_set [] n i k bytes b h = let no : ⊥ = omega arith in elim no [ ]
+shown_set [] n i k bytes b h = absurd (omega arith)
 shown_set (f ∷ q) n zero k bytes b h = go (eqb k n) refl
   where
     go : (t : Bool) → eqb k n ≡ t → shown q k (cond (eqb k n) bytes b) ≡ cond (eqb k n) bytes (shown q k (cond (eqb k f.number) f.block b))
@@ -38,7 +37,7 @@ shown_set (f ∷ q) n (suc i) k bytes b h =
     shown_set q n i k bytes (cond (eqb k f.number) f.block b) (omega arith, h.1, (λ j a l e. h.2 (suc j) (omega arith) (omega arith) e))
 
 shown_at : (q : List Frame) (n i : ℕ) (b : List ℕ) → Newest q n (Some i) → shown q n b ≡ (at q i).block
-shown_at [] n i b h = let no : ⊥ = omega arith in elim no [ ]
+shown_at [] n i b h = absurd (omega arith)
 shown_at (f ∷ q) n zero b h =
     shown_none q n (cond (eqb n f.number) f.block b) (λ j l g. h.2 (suc j) (omega arith) (omega arith) g)
     ∙ ap (λ t. cond t f.block b) (eq-eqb n f.number (sym h.1))
@@ -99,12 +98,6 @@ cached_kept q d e k =
       block = ap₂ {C = ℕ → List ℕ} (λ (h : ℕ → Bool) (b : ℕ → List ℕ) n. cond (h n) (shown q n (b n)) (b n)) k.held k.block;
     }
 
--- no frames: the device below, but for the layer
-pub new_meaning : (fs : List Frame) (d : Meaning) → fs ≡ [] → cached fs d ≡ renamed d
-new_meaning fs d free =
-    ap (λ (gs : List Frame). cached gs d) free
-    ∙ ap {B = Meaning} (λ (b : ℕ → List ℕ). record { limit = d.limit; held = d.held; left = d.left; block = b; backing = d.backing; in_order = d.in_order; layer = Cache; spent = d.spent }) (bare d)
-
 -- whole frames over a whole block show a whole block
 shown_whole : (fs : List Frame) (n : ℕ) (b : List ℕ) → ((i : ℕ) → i < length fs → length (at fs i).block ≡ 1024) → length b ≡ 1024 → length (shown fs n b) ≡ 1024
 shown_whole [] n b all h = h
@@ -120,7 +113,3 @@ cached_sound fs d all s = record { bounded = s.bounded; inside = s.inside; whole
     by : (n : ℕ) (t : Bool) → length (d.block n) ≡ 1024 → length (cond t (shown fs n (d.block n)) (d.block n)) ≡ 1024
     by n true h = shown_whole fs n (d.block n) all h
     by n false h = h
-
--- a number that is not held shows the block below
-pub cached_zeroed : (fs : List Frame) (d : Meaning) → Zeroed d → Zeroed (cached fs d)
-cached_zeroed fs d zeros n inside un = ap (λ t. cond t (shown fs n (d.block n)) (d.block n)) un ∙ zeros n inside un

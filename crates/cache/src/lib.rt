@@ -1,8 +1,6 @@
 // A write-back cache of eight frames over any page device.
 #![tactic(auto)]
 
-mod ages;
-mod blocks;
 pub mod frames;
 
 ghost use Rattle.std.specs.Prelude.{◌≡◌, ◌<◌, [], length};
@@ -11,13 +9,11 @@ ghost use Rattle.cache.specs.Calls.{visible};
 ghost use Rattle.cache.specs.InUse.{in_use};
 ghost use Rattle.cache.specs.Shown.{Shows, cached, renamed};
 ghost use Rattle.cache.specs.Told.{Told};
-ghost use Rattle.devices.specs.Step.{fault};
 ghost use Rattle.devices.specs.Trace.{Did};
-ghost use Rattle.faults.specs.declared.Layer.TheVariants.{Cache as Here};
 
-use devices::{Device, ZeroUnheld};
+use devices::{Device, ZeroUnheld, check_buffer, check_number};
 use faults::{Fault, Layer, Refusal};
-use frames::Queue;
+use frames::{FRAMES, Frame, Queue};
 
 // What was written stays in the frames, and goes below when a frame is needed or at a flush.
 #[derive(Drop)]
@@ -54,7 +50,7 @@ impl<D: Device> Cache<D> {
     fn make_room(&mut self) -> Result<(), Fault>
         ensures { MadeRoom (Did D.Device.steps D.Device.meaning) D.Device.meaning (in_use self.old.queue) self.old.below result (in_use self.new.queue) self.new.below }
     {
-        if self.queue.len() < 8 {
+        if self.queue.len() < FRAMES {
             return Ok(());
         }
         self.evict()
@@ -67,7 +63,7 @@ impl<D: Device> Cache<D> {
     {
         let oldest = self.queue.frame(0);
         if self.below.holds(oldest.number) {
-            self.below.write(oldest.number, oldest.bytes())?;
+            self.below.write(oldest.number, &oldest.block)?;
         }
         self.queue.pop();
         Ok(())
@@ -77,21 +73,10 @@ impl<D: Device> Cache<D> {
     fn drain(&mut self) -> Result<(), Fault>
         ensures { Drained (Did D.Device.steps D.Device.meaning) D.Device.meaning (in_use self.old.queue) self.old.below result (in_use self.new.queue) self.new.below }
     {
-        'all: while self.queue.len() > 0 {
+        while !self.queue.is_empty() {
             self.evict()?;
         }
         self.below.flush()
-    }
-}
-
-// A refusal by the cache itself.
-fn refused(refusal: Refusal, block: u32) -> Fault
-    ensures { result ≡ fault refusal Here block }
-{
-    Fault {
-        refusal,
-        layer: Layer::Cache,
-        block,
     }
 }
 
@@ -114,9 +99,7 @@ impl<D: Device> Device for Cache<D> {
 
     // A claim always goes below. A number that was not held has no frame afterwards, so that it shows the block below.
     fn claim(&mut self, n: u32) -> Result<(), Fault> {
-        if n >= self.below.limit() {
-            return Err(refused(Refusal::PastLimit, n));
-        }
+        check_number(Layer::Cache, self.below.limit(), n)?;
         if self.below.holds(n) {
             return self.below.claim(n);
         }
@@ -126,35 +109,26 @@ impl<D: Device> Device for Cache<D> {
     }
 
     fn read(&mut self, n: u32, into: &mut [u8]) -> Result<(), Fault> {
-        if into.len() != 1024 {
-            return Err(refused(Refusal::NotABlock, 0));
-        }
-        if n >= self.below.limit() {
-            return Err(refused(Refusal::PastLimit, n));
-        }
-        if let Some(i) = self.shown_by(n) {
-            into.copy_from_slice(self.queue.frame(i).bytes());
+        check_buffer(Layer::Cache, self.below.limit(), n, into.len())?;
+        if let Some(age) = self.shown_by(n) {
+            into.copy_from_slice(&self.queue.frame(age).block);
             return Ok(());
         }
         self.below.read(n, into)
     }
 
     fn write(&mut self, n: u32, from: &[u8]) -> Result<(), Fault> {
-        if from.len() != 1024 {
-            return Err(refused(Refusal::NotABlock, 0));
-        }
-        if n >= self.below.limit() {
-            return Err(refused(Refusal::PastLimit, n));
-        }
+        check_buffer(Layer::Cache, self.below.limit(), n, from.len())?;
         if !self.below.holds(n) {
-            return Err(refused(Refusal::NotHeld, n));
+            return Err(Layer::Cache.fault(Refusal::NotHeld, n));
         }
-        if let Some(i) = self.queue.find(n) {
-            self.queue.overwrite(i, n, from);
+        let frame = Frame::new(n, from);
+        if let Some(age) = self.queue.find(n) {
+            self.queue.overwrite(age, frame);
             return Ok(());
         }
         self.make_room()?;
-        self.queue.push(n, from);
+        self.queue.push(frame);
         Ok(())
     }
 

@@ -1,459 +1,299 @@
-// A plain model of a stack of page devices. The device at the bottom is a list of numbered blocks, and what stands on it a
-// list of floors, lowest first. A level is how many of the floors there are below: level 0 is the bottom.
+// A plain model of a stack of page devices: what stands on a device, as a list of floors, lowest first.
+use crate::counts::{Counts, count};
+use crate::failure::Failure;
+use crate::store::{BLOCK, Numbered, Store, shown, shown_mut};
+use faults::{Fault, Layer, Refusal};
 use std::alloc::{AllocError, Global};
 use std::mem;
-
-// How many bytes a block has, and a record of a slotted image, and how many blocks a device has at most.
-pub const BLOCK: usize = 1024;
-
-pub const RECORD: usize = 1030;
-
-pub const MOST: u32 = 65_544;
 
 // How many frames a cache has.
 const FRAMES: usize = 8;
 
-// A refusal: its number, the layer's, and the block's.
-#[derive(Clone, Copy, PartialEq, Eq, Debug)]
-pub struct Told {
-    pub number: u8,
-    pub layer: u8,
-    pub block: u32,
-}
-
 // What a call answers.
-pub type Answer = Result<(), Told>;
+pub type Answer = Result<(), Fault>;
 
-// A block and its number.
+// What stands on a device: a cache with its frames, oldest first, a quota with its remainder, or a window.
 #[derive(Drop)]
-struct Numbered {
-    number: u32,
-    bytes: Vec<u8>,
-}
-
-// What stands on a device. The frames of a cache are listed oldest first.
-#[derive(Drop)]
-enum Floor {
+pub enum Floor {
     Cache(Vec<Numbered>),
     Quota(u32),
-    Window(u32, u32),
+    Window { base: u32, length: u32 },
 }
 
-// How many calls came down to the bottom.
-#[derive(Clone, Copy, PartialEq, Eq, Debug)]
-pub struct Counts {
-    pub claims: u64,
-    pub reads: u64,
-    pub writes: u64,
-    pub flushes: u64,
-}
+impl Floor {
+    fn layer(&self) -> Layer {
+        match self {
+            Floor::Cache(_) => Layer::Cache,
+            Floor::Quota(_) => Layer::Quota,
+            Floor::Window { .. } => Layer::Window,
+        }
+    }
 
-impl Counts {
-    pub fn none() -> Counts {
-        Counts {
-            claims: 0,
-            reads: 0,
-            writes: 0,
-            flushes: 0,
+    // What a number on the floor is below it.
+    fn below(&self, n: u32) -> u32 {
+        match self {
+            Floor::Window { base, .. } => n.saturating_add(*base),
+            _ => n,
+        }
+    }
+
+    // Whether a number on the floor has a block below it.
+    fn reaches(&self, n: u32) -> bool {
+        match self {
+            Floor::Window { length, .. } => n < *length,
+            _ => true,
+        }
+    }
+
+    // Takes a block, and gives the one to carry on down, if there is one.
+    fn take(&mut self, block: Numbered) -> Result<Option<Numbered>, AllocError> {
+        match self {
+            Floor::Cache(frames) => keep(frames, block),
+            Floor::Quota(_) => Ok(Some(block)),
+            Floor::Window { base, .. } => {
+                let Numbered { number, bytes } = block;
+                let number = number.saturating_add(*base);
+                Ok(Some(Numbered { number, bytes }))
+            }
+        }
+    }
+
+    // Takes the frames out.
+    fn emptied(&mut self, heap: Global) -> Vec<Numbered> {
+        match self {
+            Floor::Cache(frames) => mem::replace(frames, Vec::new(heap)),
+            _ => Vec::new(heap),
         }
     }
 }
 
-// A stack. The image of the bottom is the stored blocks, with or without marks, then the free records, then the rest.
+// A stack.
 #[derive(Drop)]
 pub struct Model {
-    heap: Global,
-    limit: u32,
-    marked: bool,
-    stored: Vec<Numbered>,
-    free: Vec<Vec<u8>>,
-    rest: Vec<u8>,
+    store: Store,
     floors: Vec<Floor>,
-    pub counts: Counts,
 }
 
 impl Model {
-    // A device with no block and these bytes, which stay as they are.
-    fn dead(heap: Global, marked: bool, bytes: &[u8]) -> Result<Model, AllocError> {
-        Ok(Model {
-            heap,
-            limit: 0,
-            marked,
-            stored: Vec::new(heap),
-            free: Vec::new(heap),
-            rest: bytes.to_vec(heap)?,
+    fn new(heap: Global, store: Store) -> Model {
+        Model {
+            store,
             floors: Vec::new(heap),
-            counts: Counts::none(),
-        })
+        }
     }
 
     // Bytes as consecutive blocks.
     pub fn flat(heap: Global, bytes: &[u8]) -> Result<Model, AllocError> {
-        let mut model = Model::dead(heap, false, &[])?;
-        for piece in bytes.chunks(BLOCK) {
-            if piece.len() == BLOCK && model.limit < MOST {
-                let bytes = piece.to_vec(heap)?;
-                let number = model.limit;
-                model.stored.push(Numbered { number, bytes })?;
-                model.limit = number.saturating_add(1);
-            } else {
-                model.rest.extend_from_slice(piece)?;
-            }
-        }
-        Ok(model)
+        Ok(Model::new(heap, Store::flat(heap, bytes)?))
     }
 
     // Bytes as marked records, some of them free.
     pub fn slotted(heap: Global, bytes: &[u8]) -> Result<Model, AllocError> {
-        if bytes.len() % RECORD != 0 || bytes.len() / RECORD > 65_544 {
-            return Model::dead(heap, true, bytes);
-        }
-        let mut model = Model::dead(heap, true, &[])?;
-        model.limit = MOST;
-        for record in bytes.chunks(RECORD) {
-            if !model.take_record(record)? {
-                return Model::dead(heap, true, bytes);
-            }
-        }
-        Ok(model)
-    }
-
-    // Takes the next record in, and says whether it is well-formed after those before it.
-    fn take_record(&mut self, record: &[u8]) -> Result<bool, AllocError> {
-        match record {
-            [b'S', b'D', a, b, c, d, block @ ..] => {
-                let number = u32::from_le_bytes([*a, *b, *c, *d]);
-                if number >= MOST || !self.free.is_empty() || self.stored_at(number).is_some() {
-                    return Ok(false);
-                }
-                let bytes = block.to_vec(self.heap)?;
-                self.stored.push(Numbered { number, bytes })?;
-                Ok(true)
-            }
-            [0, 0, ..] => {
-                self.free.push(record.to_vec(self.heap)?)?;
-                Ok(true)
-            }
-            _ => Ok(false),
-        }
+        Ok(Model::new(heap, Store::slotted(heap, bytes)?))
     }
 
     // The bytes that the bottom has to have.
     pub fn image(&self) -> Result<Vec<u8>, AllocError> {
-        let mut image = Vec::new(self.heap);
-        for block in self.stored.iter() {
-            if self.marked {
-                image.extend_from_slice(b"SD")?;
-                image.extend_from_slice(&block.number.to_le_bytes())?;
-            }
-            image.extend_from_slice(block.bytes.as_slice())?;
-        }
-        for record in self.free.iter() {
-            image.extend_from_slice(record.as_slice())?;
-        }
-        image.extend_from_slice(self.rest.as_slice())?;
-        Ok(image)
+        self.store.image()
+    }
+
+    // How many calls came down to the bottom.
+    pub fn counts(&self) -> Counts {
+        self.store.counts
     }
 
     // Takes every floor off, and counts anew. What a cache had in its frames is lost.
     pub fn clear(&mut self) {
         self.floors.clear();
-        self.counts = Counts::none();
+        self.store.counts = Counts::default();
     }
 
-    pub fn add_cache(&mut self) -> Result<(), AllocError> {
-        let frames = Vec::new(self.heap);
-        self.floors.push(Floor::Cache(frames))?;
+    // Puts a floor on top.
+    pub fn add(&mut self, floor: Floor) -> Result<(), AllocError> {
+        self.floors.push(floor)?;
         Ok(())
-    }
-
-    pub fn add_quota(&mut self, remainder: u32) -> Result<(), AllocError> {
-        self.floors.push(Floor::Quota(remainder))?;
-        Ok(())
-    }
-
-    pub fn add_window(&mut self, base: u32, length: u32) -> Result<(), AllocError> {
-        self.floors.push(Floor::Window(base, length))?;
-        Ok(())
-    }
-
-    // The layer's number of what stands on top.
-    fn layer(&self) -> u8 {
-        match self.floors.last() {
-            None => 1,
-            Some(Floor::Cache(_)) => 2,
-            Some(Floor::Quota(_)) => 3,
-            Some(Floor::Window(_, _)) => 4,
-        }
     }
 
     // A refusal by what stands on top.
-    fn refused(&self, number: u8, block: u32) -> Answer {
-        let layer = self.layer();
-        Err(Told {
-            number,
-            layer,
-            block,
-        })
+    fn fault(&self, refusal: Refusal, block: u32) -> Fault {
+        let layer = match self.floors.last() {
+            None => Layer::Bottom,
+            Some(floor) => floor.layer(),
+        };
+        layer.fault(refusal, block)
     }
 
     // The limit of the whole stack.
     pub fn limit(&self) -> u32 {
-        let mut limit = self.limit;
-        for floor in self.floors.iter() {
-            if let Floor::Window(base, length) = floor {
-                limit = limit.saturating_sub(*base).min(*length);
-            }
-        }
-        limit
+        self.floors
+            .iter()
+            .fold(self.store.limit, |limit, floor| match floor {
+                Floor::Window { base, length } => limit.saturating_sub(*base).min(*length),
+                _ => limit,
+            })
     }
 
     // How many more numbers may be claimed.
     pub fn left(&self) -> u32 {
-        let mut left = u32::try_from(self.free.len()).unwrap_or(u32::MAX);
-        for floor in self.floors.iter() {
-            if let Floor::Quota(remainder) = floor {
-                left = left.min(*remainder);
-            }
-        }
-        left
+        self.floors
+            .iter()
+            .fold(self.store.left(), |left, floor| match floor {
+                Floor::Quota(remainder) => left.min(*remainder),
+                _ => left,
+            })
     }
 
     // Whether the whole stack holds a number.
     pub fn holds(&self, n: u32) -> bool {
-        self.holds_at(self.floors.len(), n)
+        holds(self.floors.as_slice(), &self.store, n)
     }
 
-    // Whether a number is held at a level.
-    fn holds_at(&self, level: usize, n: u32) -> bool {
-        let mut m = n;
-        for i in (0..level).rev() {
-            if let Some(Floor::Window(base, length)) = self.floors.get(i) {
-                if m >= *length {
-                    return false;
-                }
-                m = m.saturating_add(*base);
-            }
+    // What a call on a number asks first.
+    fn check_number(&self, n: u32) -> Answer {
+        if n >= self.limit() {
+            return Err(self.fault(Refusal::PastLimit, n));
         }
-        self.stored_at(m).is_some()
+        Ok(())
     }
 
-    // Where the bottom has the block of a number.
-    fn stored_at(&self, n: u32) -> Option<usize> {
-        place(self.stored.as_slice(), n)
+    // What a call with a buffer asks first.
+    fn check_buffer(&self, n: u32, len: usize) -> Answer {
+        if len != BLOCK {
+            return Err(self.fault(Refusal::NotABlock, 0));
+        }
+        self.check_number(n)
     }
 
     // Claims a number of the whole stack.
-    pub fn claim(&mut self, n: u32) -> Result<Answer, AllocError> {
-        if n >= self.limit() {
-            return Ok(self.refused(9, n));
-        }
+    pub fn claim(&mut self, n: u32) -> Result<(), Failure<Fault>> {
+        self.check_number(n)?;
         let held = self.holds(n);
-        let mut m = n;
-        for floor in self.floors.iter().rev() {
-            match floor {
-                Floor::Quota(0) if !held => {
-                    return Ok(Err(Told {
-                        number: 10,
-                        layer: 3,
-                        block: m,
-                    }));
-                }
-                Floor::Window(base, _) => m = m.saturating_add(*base),
-                _ => {}
-            }
+        let bottom = self.claimed(n, held)?;
+        count(&mut self.store.counts.claims);
+        if !held {
+            self.store.claim(bottom)?;
+            self.note_claim(n);
         }
-        self.counts.claims = self.counts.claims.saturating_add(1);
-        if held {
-            return Ok(Ok(()));
-        }
-        if self.free.is_empty() {
-            return Ok(Err(Told {
-                number: 10,
-                layer: 1,
-                block: m,
-            }));
-        }
-        self.store_new(m)?;
-        self.note_claim(n)?;
-        Ok(Ok(()))
+        Ok(())
     }
 
-    // The first free record becomes a block of zeros.
-    fn store_new(&mut self, number: u32) -> Result<(), AllocError> {
-        if !self.free.is_empty() {
-            let _ = self.free.remove(0);
-        }
-        let bytes = vec![in self.heap; 0u8; BLOCK]?;
-        self.stored.push(Numbered { number, bytes })?;
-        Ok(())
+    // The number of the bottom that a claim takes, unless a quota refuses it.
+    fn claimed(&self, n: u32, held: bool) -> Result<u32, Fault> {
+        self.floors
+            .iter()
+            .rev()
+            .try_fold(n, |m, floor| match floor {
+                Floor::Quota(0) if !held => Err(Layer::Quota.fault(Refusal::NoClaim, m)),
+                _ => Ok(floor.below(m)),
+            })
     }
 
     // What every floor does once a new number was claimed.
-    fn note_claim(&mut self, n: u32) -> Result<(), AllocError> {
-        let heap = self.heap;
+    fn note_claim(&mut self, n: u32) {
         let mut m = n;
-        for i in (0..self.floors.len()).rev() {
-            match self.floors.get_mut(i) {
-                Some(Floor::Quota(remainder)) => *remainder = remainder.saturating_sub(1),
-                Some(Floor::Window(base, _)) => m = m.saturating_add(*base),
-                Some(Floor::Cache(frames)) => forget(heap, frames, m)?,
-                None => {}
+        for floor in self.floors.iter_mut().rev() {
+            match floor {
+                Floor::Cache(frames) => frames.retain(|frame| frame.number != m),
+                Floor::Quota(remainder) => *remainder = remainder.saturating_sub(1),
+                Floor::Window { base, .. } => m = m.saturating_add(*base),
             }
         }
-        Ok(())
     }
 
     // Reads a block of the whole stack into a buffer, which a refusal leaves alone.
-    pub fn read(&mut self, n: u32, into: &mut Vec<u8>) -> Result<Answer, AllocError> {
-        if into.len() != BLOCK {
-            return Ok(self.refused(3, 0));
-        }
-        if n >= self.limit() {
-            return Ok(self.refused(9, n));
-        }
-        *into = self.block_of(n)?;
-        Ok(Ok(()))
-    }
-
-    // The block of a number of the whole stack: that of the uppermost frame that shows it, or else that of the bottom.
-    fn block_of(&mut self, n: u32) -> Result<Vec<u8>, AllocError> {
-        let mut m = n;
-        for i in (0..self.floors.len()).rev() {
-            match self.floors.get(i) {
-                Some(Floor::Window(base, _)) => m = m.saturating_add(*base),
-                Some(Floor::Cache(frames)) => {
-                    if let Some(bytes) = shown(frames.as_slice(), m) {
-                        if self.holds_at(i, m) {
-                            return bytes.to_vec(self.heap);
-                        }
-                    }
-                }
-                _ => {}
-            }
-        }
-        self.counts.reads = self.counts.reads.saturating_add(1);
-        match shown(self.stored.as_slice(), m) {
-            Some(bytes) => bytes.to_vec(self.heap),
-            None => vec![in self.heap; 0u8; BLOCK],
-        }
-    }
-
-    // Writes a block of the whole stack.
-    pub fn write(&mut self, n: u32, from: &[u8]) -> Result<Answer, AllocError> {
-        if from.len() != BLOCK {
-            return Ok(self.refused(3, 0));
-        }
-        if n >= self.limit() {
-            return Ok(self.refused(9, n));
-        }
-        if !self.holds(n) {
-            return Ok(self.refused(11, n));
-        }
-        let bytes = from.to_vec(self.heap)?;
-        let level = self.floors.len();
-        self.put(level, Numbered { number: n, bytes })?;
-        Ok(Ok(()))
-    }
-
-    // Carries a block down from a level: to the first cache with room for it, or to the bottom. A full cache keeps it and
-    // gives its oldest block to carry on.
-    fn put(&mut self, level: usize, block: Numbered) -> Result<(), AllocError> {
-        let mut carried = block;
-        for i in (0..level).rev() {
-            match self.floors.get_mut(i) {
-                Some(Floor::Window(base, _)) => {
-                    carried.number = carried.number.saturating_add(*base);
-                }
-                Some(Floor::Cache(frames)) => match keep(frames, carried)? {
-                    None => return Ok(()),
-                    Some(oldest) => carried = oldest,
-                },
-                _ => {}
-            }
-            if !self.holds_at(i, carried.number) {
-                return Ok(());
-            }
-        }
-        self.store(carried);
+    pub fn read(&mut self, n: u32, into: &mut Vec<u8>) -> Result<(), Failure<Fault>> {
+        self.check_buffer(n, into.len())?;
+        *into = block_of(self.floors.as_slice(), &mut self.store, n)?;
         Ok(())
     }
 
-    // A block comes to the bottom.
-    fn store(&mut self, block: Numbered) {
-        self.counts.writes = self.counts.writes.saturating_add(1);
-        if let Some(i) = self.stored_at(block.number) {
-            if let Some(old) = self.stored.get_mut(i) {
-                *old = block;
-            }
+    // Writes a block of the whole stack.
+    pub fn write(&mut self, n: u32, from: &[u8]) -> Result<(), Failure<Fault>> {
+        self.check_buffer(n, from.len())?;
+        if !self.holds(n) {
+            return Err(self.fault(Refusal::NotHeld, n).into());
         }
+        let bytes = from.to_vec(self.store.heap)?;
+        let block = Numbered { number: n, bytes };
+        put(self.floors.as_mut_slice(), &mut self.store, block)?;
+        Ok(())
     }
 
-    // Flushes the whole stack: each cache in turn, from the top, gives its frames to the level below it, oldest first.
-    pub fn flush(&mut self) -> Result<Answer, AllocError> {
-        for i in (0..self.floors.len()).rev() {
-            for frame in self.emptied(i) {
-                if self.holds_at(i, frame.number) {
-                    self.put(i, frame)?;
-                }
-            }
-        }
-        self.counts.flushes = self.counts.flushes.saturating_add(1);
-        Ok(Ok(()))
-    }
-
-    // Takes the frames out of a floor.
-    fn emptied(&mut self, i: usize) -> Vec<Numbered> {
-        let empty = Vec::new(self.heap);
-        match self.floors.get_mut(i) {
-            Some(Floor::Cache(frames)) => mem::replace(frames, empty),
-            _ => empty,
-        }
+    // Flushes the whole stack.
+    pub fn flush(&mut self) -> Result<(), Failure<Fault>> {
+        flush(self.floors.as_mut_slice(), &mut self.store)?;
+        Ok(())
     }
 }
 
-// Where the last block with a number stands.
-fn place(blocks: &[Numbered], n: u32) -> Option<usize> {
-    let mut found = None;
-    for (i, block) in blocks.iter().enumerate() {
-        if block.number == n {
-            found = Some(i);
-        }
-    }
-    found
+// From here to `flush` the floors and the store stay two parameters. As one struct of two references, made anew for the floors
+// below, the recursion is not proved: the check follows no slice that is split out of a field and put into such a struct again.
+
+// Whether a number is held on top of these floors.
+fn holds(floors: &[Floor], store: &Store, n: u32) -> bool {
+    floors
+        .iter()
+        .rev()
+        .try_fold(n, |m, floor| floor.reaches(m).then_some(floor.below(m)))
+        .is_some_and(|m| store.holds(m))
 }
 
-// The last block with a number.
-fn shown(blocks: &[Numbered], n: u32) -> Option<&[u8]> {
-    let i = place(blocks, n)?;
-    let block = blocks.get(i)?;
-    Some(block.bytes.as_slice())
+// The block of a number on top of these floors: that of the uppermost frame that shows it, or else that of the bottom.
+fn block_of(floors: &[Floor], store: &mut Store, n: u32) -> Result<Vec<u8>, AllocError> {
+    let [below @ .., top] = floors else {
+        return store.read(n);
+    };
+    if let Floor::Cache(frames) = top {
+        if let Some(bytes) = shown(frames.as_slice(), n) {
+            if holds(below, store, n) {
+                return bytes.to_vec(store.heap);
+            }
+        }
+    }
+    block_of(below, store, top.below(n))
+}
+
+// Carries a block down: to the first cache with room for it, or to the bottom. A full cache keeps it and gives its oldest
+// block to carry on.
+fn put(floors: &mut [Floor], store: &mut Store, block: Numbered) -> Result<(), AllocError> {
+    let Some((top, below)) = floors.split_last_mut() else {
+        store.write(block);
+        return Ok(());
+    };
+    let Some(carried) = top.take(block)? else {
+        return Ok(());
+    };
+    if !holds(below, store, carried.number) {
+        return Ok(());
+    }
+    put(below, store, carried)
+}
+
+// Flushes floors: each cache in turn, from the top, gives its frames to what is below it, oldest first.
+fn flush(floors: &mut [Floor], store: &mut Store) -> Result<(), AllocError> {
+    let Some((top, below)) = floors.split_last_mut() else {
+        count(&mut store.counts.flushes);
+        return Ok(());
+    };
+    for frame in top.emptied(store.heap) {
+        if holds(below, store, frame.number) {
+            put(below, store, frame)?;
+        }
+    }
+    flush(below, store)
 }
 
 // Gives a block to a cache, which may give its oldest one back.
 fn keep(frames: &mut Vec<Numbered>, block: Numbered) -> Result<Option<Numbered>, AllocError> {
-    if let Some(i) = place(frames.as_slice(), block.number) {
-        if let Some(frame) = frames.get_mut(i) {
-            *frame = block;
-            return Ok(None);
-        }
+    if let Some(frame) = shown_mut(frames.as_mut_slice(), block.number) {
+        *frame = block;
+        return Ok(None);
     }
-    let oldest = if frames.len() >= FRAMES {
-        Some(frames.remove(0))
-    } else {
+    let oldest = if frames.len() < FRAMES {
         None
+    } else {
+        Some(frames.remove(0))
     };
     frames.push(block)?;
     Ok(oldest)
-}
-
-// Drops the frames with a number.
-fn forget(heap: Global, frames: &mut Vec<Numbered>, n: u32) -> Result<(), AllocError> {
-    let old = mem::replace(frames, Vec::new(heap));
-    for frame in old {
-        if frame.number != n {
-            frames.push(frame)?;
-        }
-    }
-    Ok(())
 }

@@ -1,15 +1,20 @@
 // Numbers that look random, and are the same in every run.
 use std::alloc::{AllocError, Global};
 
+// The numbers, and the memory that random bytes are put in.
 #[derive(Drop)]
 pub struct Random {
+    pub heap: Global,
     state: u64,
 }
 
 impl Random {
     // The numbers from a fixed start on. A start of 0 would stay 0.
-    pub fn new(start: u64) -> Random {
-        Random { state: start | 1 }
+    pub fn new(heap: Global, start: u64) -> Random {
+        Random {
+            heap,
+            state: start | 1,
+        }
     }
 
     // The next number.
@@ -36,12 +41,13 @@ impl Random {
         self.below(n) == 0
     }
 
+    pub fn byte(&mut self) -> u8 {
+        (self.word() & 0xff) as u8
+    }
+
     // So many bytes.
-    pub fn bytes(&mut self, heap: Global, len: usize) -> Result<Vec<u8>, AllocError> {
-        let mut bytes = Vec::with_capacity(heap, len)?;
-        for _ in 0..len {
-            bytes.push((self.word() & 0xff) as u8)?;
-        }
-        Ok(bytes)
+    pub fn bytes(&mut self, len: usize) -> Result<Vec<u8>, AllocError> {
+        let heap = self.heap;
+        (0..len).map(|_| self.byte()).collect(heap)
     }
 }

@@ -1,9 +1,14 @@
 // Stacks of up to four layers over a device, and the runs on them.
-use crate::runs::{Bench, Stop, edge, run};
+use crate::model::Floor;
+use crate::runs::{Bench, Stop, edge};
 use cache::Cache;
 use devices::Device;
+use faults::Layer;
 use quota::Quota;
 use std::alloc::{AllocError, Global};
+use std::fmt;
+use std::iter::successors;
+use std::marker::PhantomData;
 use window::Window;
 
 // A layer of a stack.
@@ -14,48 +19,52 @@ pub enum Kind {
     Window,
 }
 
-// How many kinds there are, and how many layers a stack has at most.
-const KINDS: u32 = 3;
+impl Kind {
+    // Who refuses on it, by whose name it is printed.
+    fn layer(self) -> Layer {
+        match self {
+            Kind::Cache => Layer::Cache,
+            Kind::Quota => Layer::Quota,
+            Kind::Window => Layer::Window,
+        }
+    }
+}
 
-pub const HEIGHT: u32 = 4;
+const KINDS: [Kind; 3] = [Kind::Cache, Kind::Quota, Kind::Window];
 
 // How many stacks of a height there are.
-pub fn shapes(height: u32) -> u32 {
-    KINDS.saturating_pow(height)
+pub fn shapes(height: u32) -> usize {
+    KINDS.len().saturating_pow(height)
 }
 
-// The layers of a stack, lowest first, for each code below the number of stacks of that height.
-pub fn shape(heap: Global, height: u32, code: u32) -> Result<Vec<Kind>, AllocError> {
-    let mut kinds = Vec::new(heap);
-    let mut rest = code;
-    for _ in 0..height {
-        let kind = match rest % KINDS {
-            0 => Kind::Cache,
-            1 => Kind::Quota,
-            _ => Kind::Window,
-        };
-        kinds.push(kind)?;
-        rest = rest / KINDS;
-    }
-    Ok(kinds)
+// The layers of a stack, lowest first, for each code below the number of stacks of that height: the code's digits.
+pub fn shape(heap: Global, height: u32, code: usize) -> Result<Vec<Kind>, AllocError> {
+    successors(Some(code), |rest| Some(*rest / KINDS.len()))
+        .take(height as usize)
+        .map(|rest| KINDS[rest % KINDS.len()])
+        .collect(heap)
 }
 
-// The name of a stack, uppermost layer last.
-pub fn name(heap: Global, bottom: &str, kinds: &[Kind]) -> Result<String, AllocError> {
-    let mut name = String::from_str(heap, bottom)?;
-    for kind in kinds {
-        name.push_str(match kind {
-            Kind::Cache => " cache",
-            Kind::Quota => " quota",
-            Kind::Window => " window",
-        })?;
+// A stack by its name: that of the device at the bottom, and then the layers, uppermost last.
+#[derive(Clone, Copy)]
+pub struct Stack<'a> {
+    pub bottom: &'a str,
+    pub kinds: &'a [Kind],
+}
+
+impl<'a> fmt::Display for Stack<'a> {
+    fn fmt<W: fmt::Write>(&self, f: &mut fmt::Formatter<W>) -> fmt::Result {
+        f.write_str(self.bottom)?;
+        for kind in self.kinds {
+            write!(f, " {}", kind.layer())?;
+        }
+        Ok(())
     }
-    Ok(name)
 }
 
 // A cache over a device, beside one in the model.
 fn with_cache<D: Device + Drop>(bench: &mut Bench, below: D) -> Result<Cache<D>, Stop> {
-    bench.model.add_cache()?;
+    bench.model.add(Floor::Cache(Vec::new(bench.heap)))?;
     Ok(Cache::new(below))
 }
 
@@ -66,7 +75,7 @@ fn with_quota<D: Device + Drop>(bench: &mut Bench, below: D) -> Result<Quota<D>,
     } else {
         bench.random.below(8)
     };
-    bench.model.add_quota(remainder)?;
+    bench.model.add(Floor::Quota(remainder))?;
     Ok(Quota::new(below, remainder))
 }
 
@@ -83,89 +92,51 @@ fn with_window<D: Device + Drop>(bench: &mut Bench, below: D) -> Result<Window<D
     } else {
         bench.random.below(40).saturating_add(8)
     };
-    bench.model.add_window(base, length)?;
+    bench.model.add(Floor::Window { base, length })?;
     Ok(Window::new(below, base, length))
 }
 
-// A run on a whole stack.
-fn grown<D: Device + Drop>(bench: &mut Bench, top: D) -> Result<(), Stop> {
-    let mut device = top;
-    let calls = bench.random.below(150).saturating_add(1);
-    run(bench, &mut device, calls)
+// How many layers may stand on a device. The number is in the type, since each layer makes a stack of another type.
+pub trait Height {
+    // Puts these layers on a device, as many of them as the height allows, and runs.
+    fn grow<D: Device + Drop>(bench: &mut Bench, kinds: &[Kind], below: D) -> Result<(), Stop>;
 }
 
-// Puts at most one layer on a device, and runs.
-fn grow1<D: Device + Drop>(bench: &mut Bench, kinds: &[Kind], below: D) -> Result<(), Stop> {
-    match kinds {
-        [] => grown(bench, below),
-        [Kind::Cache, ..] => {
-            let device = with_cache(bench, below)?;
-            grown(bench, device)
-        }
-        [Kind::Quota, ..] => {
-            let device = with_quota(bench, below)?;
-            grown(bench, device)
-        }
-        [Kind::Window, ..] => {
-            let device = with_window(bench, below)?;
-            grown(bench, device)
+// No layer.
+pub struct Ground;
+
+// One layer more.
+pub struct Above<H>(PhantomData<H>);
+
+impl Height for Ground {
+    fn grow<D: Device + Drop>(bench: &mut Bench, _kinds: &[Kind], below: D) -> Result<(), Stop> {
+        let mut device = below;
+        let calls = bench.random.below(150).saturating_add(1);
+        bench.run(&mut device, calls)
+    }
+}
+
+impl<H: Height> Height for Above<H> {
+    fn grow<D: Device + Drop>(bench: &mut Bench, kinds: &[Kind], below: D) -> Result<(), Stop> {
+        match kinds {
+            [] => Ground::grow(bench, kinds, below),
+            [Kind::Cache, rest @ ..] => {
+                let device = with_cache(bench, below)?;
+                H::grow(bench, rest, device)
+            }
+            [Kind::Quota, rest @ ..] => {
+                let device = with_quota(bench, below)?;
+                H::grow(bench, rest, device)
+            }
+            [Kind::Window, rest @ ..] => {
+                let device = with_window(bench, below)?;
+                H::grow(bench, rest, device)
+            }
         }
     }
 }
 
-// Puts at most two layers on a device, and runs.
-fn grow2<D: Device + Drop>(bench: &mut Bench, kinds: &[Kind], below: D) -> Result<(), Stop> {
-    match kinds {
-        [] => grown(bench, below),
-        [Kind::Cache, rest @ ..] => {
-            let device = with_cache(bench, below)?;
-            grow1(bench, rest, device)
-        }
-        [Kind::Quota, rest @ ..] => {
-            let device = with_quota(bench, below)?;
-            grow1(bench, rest, device)
-        }
-        [Kind::Window, rest @ ..] => {
-            let device = with_window(bench, below)?;
-            grow1(bench, rest, device)
-        }
-    }
-}
+// The most layers that a stack has, as a number and as a type.
+pub const HEIGHT: u32 = 4;
 
-// Puts at most three layers on a device, and runs.
-fn grow3<D: Device + Drop>(bench: &mut Bench, kinds: &[Kind], below: D) -> Result<(), Stop> {
-    match kinds {
-        [] => grown(bench, below),
-        [Kind::Cache, rest @ ..] => {
-            let device = with_cache(bench, below)?;
-            grow2(bench, rest, device)
-        }
-        [Kind::Quota, rest @ ..] => {
-            let device = with_quota(bench, below)?;
-            grow2(bench, rest, device)
-        }
-        [Kind::Window, rest @ ..] => {
-            let device = with_window(bench, below)?;
-            grow2(bench, rest, device)
-        }
-    }
-}
-
-// Puts at most four layers on a device, and runs.
-pub fn grow4<D: Device + Drop>(bench: &mut Bench, kinds: &[Kind], below: D) -> Result<(), Stop> {
-    match kinds {
-        [] => grown(bench, below),
-        [Kind::Cache, rest @ ..] => {
-            let device = with_cache(bench, below)?;
-            grow3(bench, rest, device)
-        }
-        [Kind::Quota, rest @ ..] => {
-            let device = with_quota(bench, below)?;
-            grow3(bench, rest, device)
-        }
-        [Kind::Window, rest @ ..] => {
-            let device = with_window(bench, below)?;
-            grow3(bench, rest, device)
-        }
-    }
-}
+pub type Highest = Above<Above<Above<Above<Ground>>>>;

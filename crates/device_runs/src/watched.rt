@@ -1,47 +1,30 @@
 // A device that counts the calls made on it.
-use crate::model::Counts;
+use crate::counts::{Counts, count};
 use devices::Device;
 use faults::Fault;
 
 #[derive(Drop)]
 pub struct Watched<D> {
     below: D,
-    claims: u64,
-    reads: u64,
-    writes: u64,
-    flushes: u64,
+    counts: Counts,
 }
 
 impl<D: Device> Watched<D> {
     pub fn new(below: D) -> Watched<D> {
         Watched {
             below,
-            claims: 0,
-            reads: 0,
-            writes: 0,
-            flushes: 0,
+            counts: Counts::default(),
         }
     }
 
     // How many calls were made.
     pub fn counts(&self) -> Counts {
-        Counts {
-            claims: self.claims,
-            reads: self.reads,
-            writes: self.writes,
-            flushes: self.flushes,
-        }
+        self.counts
     }
 
     // The device, again.
     pub fn into_below(self) -> D {
-        let Watched {
-            below,
-            claims: _,
-            reads: _,
-            writes: _,
-            flushes: _,
-        } = self;
+        let Watched { below, counts: _ } = self;
         below
     }
 }
@@ -64,22 +47,22 @@ impl<D: Device> Device for Watched<D> {
     }
 
     fn claim(&mut self, n: u32) -> Result<(), Fault> {
-        self.claims = self.claims.saturating_add(1);
+        count(&mut self.counts.claims);
         self.below.claim(n)
     }
 
     fn read(&mut self, n: u32, into: &mut [u8]) -> Result<(), Fault> {
-        self.reads = self.reads.saturating_add(1);
+        count(&mut self.counts.reads);
         self.below.read(n, into)
     }
 
     fn write(&mut self, n: u32, from: &[u8]) -> Result<(), Fault> {
-        self.writes = self.writes.saturating_add(1);
+        count(&mut self.counts.writes);
         self.below.write(n, from)
     }
 
     fn flush(&mut self) -> Result<(), Fault> {
-        self.flushes = self.flushes.saturating_add(1);
+        count(&mut self.counts.flushes);
         self.below.flush()
     }
 }

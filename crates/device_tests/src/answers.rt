@@ -1,9 +1,9 @@
 use faults::Fault;
 
-// An answer as its number, layer and block; zeros where it is accepted.
-pub fn told(answer: Result<(), Fault>) -> (u8, u8, u32) {
-    match answer {
-        Ok(()) => (0, 0, 0),
-        Err(fault) => (fault.number(), fault.layer_number(), fault.block),
-    }
+// A refusal by its numbers: why, by whom, and at which block.
+pub type Numbers = (u8, u8, u32);
+
+// What a call answers, or the numbers of its refusal. Twice, here and in format_tests: a crate for this line alone is no plainer.
+pub fn told<T>(answer: Result<T, Fault>) -> Result<T, Numbers> {
+    answer.map_err(|fault| (fault.number(), fault.layer_number(), fault.block))
 }

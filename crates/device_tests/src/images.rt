@@ -10,10 +10,7 @@ const RECORD: usize = 1030;
 fn push_record(image: &mut Vec<u8>, mark: &[u8], number: u32) -> Result<(), AllocError> {
     image.extend_from_slice(mark)?;
     image.extend_from_slice(&number.to_le_bytes())?;
-    for _ in 0..1024 {
-        image.push(7)?;
-    }
-    Ok(())
+    image.extend_from_slice(&[7; 1024])
 }
 
 fn image_of(heap: Global, records: &[(&[u8], u32)]) -> Result<Vec<u8>, AllocError> {

@@ -2,11 +2,17 @@
 #![tactic(auto)]
 
 ghost use Rattle.std.specs.Prelude.{◌≡◌, ◌<◌, true, length};
+ghost use Rattle.devices.specs.Checked.{buffer_checked, number_checked};
 ghost use Rattle.devices.specs.Meaning.{Meaning, Sound, Zeroed};
 ghost use Rattle.devices.specs.Step.{Filled, claim as Claims, flush as Flushes, read as Reads, write as Writes};
 ghost use Rattle.devices.specs.Trace.{Account, Did};
 
-use faults::Fault;
+use faults::{Fault, Layer, Refusal};
+
+// How many bytes a block has, and how many blocks a device has at most.
+pub const BLOCK: usize = 1024;
+
+pub const MOST_BLOCKS: u32 = 65_544;
 
 // Numbered blocks of 1,024 bytes. `meaning` says what the device is to its user, and `steps` is its own account of a call.
 pub trait Device {
@@ -92,4 +98,25 @@ impl<D: ZeroUnheld> ZeroUnheld for &mut D {
     fn unheld_are_zeros(&self) {
         (**self).unheld_are_zeros()
     }
+}
+
+// What every call on a number begins with: one that is not below the limit is refused by the layer.
+pub fn check_number(layer: Layer, limit: u32, n: u32) -> Result<(), Fault>
+    ensures { result ≡ number_checked layer limit n }
+{
+    if n < limit {
+        Ok(())
+    } else {
+        Err(layer.fault(Refusal::PastLimit, n))
+    }
+}
+
+// The same of a call with a buffer of this length, which comes first: it has to be a block.
+pub fn check_buffer(layer: Layer, limit: u32, n: u32, len: usize) -> Result<(), Fault>
+    ensures { result ≡ buffer_checked layer limit n len }
+{
+    if len != BLOCK {
+        return Err(layer.fault(Refusal::NotABlock, 0));
+    }
+    check_number(layer, limit, n)
 }

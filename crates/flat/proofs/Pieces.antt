@@ -1,10 +1,12 @@
 -- Blocks of bytes, and what a write over one leaves.
-use Rattle.std.proofs.Common.{◌≡◌, ℕ, ◌+◌, ◌-◌, ◌*◌, ◌/◌, ◌<◌, ◌≤◌, min, Bool, cond, ltb, List, ◌++◌, length, take, drop, Ok, sym, refl, ap, ◌∙◌, ⊎_elim, append_assoc, arith, length-append}
+use Rattle.std.proofs.Common.{◌≡◌, ℕ, ◌+◌, ◌-◌, ◌*◌, ◌/◌, ◌<◌, ◌≤◌, min, Bool, cond, ltb, List, length, take, drop, Ok, sym, refl, ap, ◌∙◌, ⊎_elim, arith}
 use mathlib.Core.Path.{fun_ext}
+use Rattle.devices.proofs.Puts.{put_above, put_below, put_length, put_same}
+use Rattle.devices.specs.Bytes.{put}
 use Rattle.devices.specs.Meaning.{Meaning, Sound, put as change}
-use Rattle.devices.specs.Step.{Kept, Wrote, read, write}
-use Rattle.flat.specs.Blocks.{answered, block_at, blocks, flat, put}
-use Rattle.std.proofs.lemmas.List.{drop_at, drop-drop, length-drop, length-take-le, take-append-drop, take-append-le, take_at}
+use Rattle.devices.specs.Step.{Kept, Wrote, write}
+use Rattle.flat.specs.Blocks.{answered, block_at, blocks, flat}
+use Rattle.std.proofs.lemmas.List.{length-drop, length-take-le}
 use Rattle.std.proofs.lemmas.Slice.{between_is}
 use Rattle.std.proofs.lemmas.Bool.{cases_order, eq-eqb, lt-ltb, ltb-true, ne_eqb}
 
@@ -31,37 +33,6 @@ block_between : (s : List ℕ) (k : ℕ) → block_at s k ≡ drop (1024 * k) (t
 block_between s k =
     let w : 1024 * k + 1024 - 1024 * k ≡ 1024 = omega arith in
     ap (λ (m : ℕ). take m (drop (1024 * k) s)) (sym w) ∙ between_is s (1024 * k) (1024 * k + 1024)
-
-module _ (s bs : List ℕ) (i : ℕ) (room : i + length bs ≤ length s) where
-  front : length (take i s) ≡ i
-  front = length-take-le i s (omega arith)
-
-  both : length (take i s ++ bs) ≡ i + length bs
-  both = length-append (take i s) bs ∙ ap (λ (n : ℕ). n + length bs) front
-
-  pub put_length : length (put s i bs) ≡ length s
-  put_length =
-      length-append (take i s) (bs ++ drop (i + length bs) s)
-      ∙ omega (arith, front, length-append bs (drop (i + length bs) s), length-drop (i + length bs) s)
-
-  pub put_same : take (length bs) (drop i (put s i bs)) ≡ bs
-  put_same = ap (take (length bs)) (drop_at (take i s) (bs ++ drop (i + length bs) s) i front) ∙ take_at bs (drop (i + length bs) s) (length bs) refl
-
-  pub put_below : (j : ℕ) → j ≤ i → take j (put s i bs) ≡ take j s
-  put_below j h =
-      take-append-le j (take i s) (bs ++ drop (i + length bs) s) (omega (arith, front))
-      ∙ sym (take-append-le j (take i s) (drop i s) (omega (arith, front)))
-      ∙ ap (take j) (take-append-drop i s)
-
-  pub put_above : (j : ℕ) → i + length bs ≤ j → drop j (put s i bs) ≡ drop j s
-  put_above j h =
-      let z : i + length bs + (j - (i + length bs)) ≡ j = omega arith in
-      let z' : j - (i + length bs) + (i + length bs) ≡ j = omega arith in
-      let d : drop (i + length bs) (put s i bs) ≡ drop (i + length bs) s =
-      ap (drop (i + length bs)) (sym (append_assoc (take i s) bs (drop (i + length bs) s))) ∙ drop_at (take i s ++ bs) (drop (i + length bs) s) (i + length bs) both in
-      let a = drop-drop (j - (i + length bs)) (i + length bs) (put s i bs) in
-      let b = drop-drop (j - (i + length bs)) (i + length bs) s in
-      ap (λ (k : ℕ). drop k (put s i bs)) (sym z) ∙ sym a ∙ ap (drop (j - (i + length bs))) d ∙ b ∙ ap (λ (k : ℕ). drop k s) z
 
 -- after a write over block n
 module _ (s bs : List ℕ) (n : ℕ) (lt : n < blocks s) (full : length bs ≡ 1024) where
@@ -106,10 +77,7 @@ module _ (s bs : List ℕ) (n : ℕ) (lt : n < blocks s) (full : length bs ≡ 1
     block = new_block;
   }
 
--- the answers of a call that nothing refuses
-pub read_accepted : (s : List ℕ) (n size : ℕ) → size ≡ 1024 → n < blocks s → Ok tt ≡ answered s (read n size)
-read_accepted s n size e lt = rw (eq-eqb size 1024 e, lt-ltb n (blocks s) lt)
-
+-- the answer of a write that nothing refuses
 pub write_accepted : (s from : List ℕ) (n : ℕ) → length from ≡ 1024 → n < blocks s → Ok tt ≡ answered s (write n from)
 write_accepted s from n e lt = rw (eq-eqb (length from) 1024 e, lt-ltb n (blocks s) lt)
 

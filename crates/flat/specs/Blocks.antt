@@ -1,5 +1,6 @@
 -- Bytes as consecutive blocks.
-use Rattle.std.specs.Prelude.{◌≡◌, ℕ, ◌+◌, ◌*◌, ◌/◌, min, true, cond, List, ◌++◌, length, take, drop, Ok, Err, Result, ◌==◌, nat_lt}
+use Rattle.std.specs.Prelude.{◌≡◌, ℕ, ◌*◌, ◌/◌, min, true, cond, List, length, take, drop, Ok, Err, Result, ◌==◌, nat_lt}
+use Rattle.devices.specs.Bytes.{put}
 use Rattle.devices.specs.Meaning.{Meaning}
 use Rattle.devices.specs.Step.{Call, claim, fault, flush, read, write}
 use Rattle.faults.specs.declared.Fault.{Fault}
@@ -12,10 +13,6 @@ blocks bytes = min (length bytes / 1024) 65544
 
 abbrev pub block_at : List ℕ → ℕ → List ℕ
 block_at bytes n = take 1024 (drop (1024 * n) bytes)
-
--- bytes written over those from i on
-abbrev pub put : List ℕ → ℕ → List ℕ → List ℕ
-put s i bs = take i s ++ (bs ++ drop (i + length bs) s)
 
 -- what these bytes are as a device: every block is held, no claim is left, and nothing fails
 abbrev pub flat : List ℕ → Meaning

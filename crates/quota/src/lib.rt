@@ -1,16 +1,12 @@
 // A limit on the claims over any device.
 #![tactic(auto)]
 
-ghost use Rattle.std.specs.Prelude.{◌≡◌, Err};
+ghost use Rattle.std.specs.Prelude.{◌≡◌};
 ghost use Rattle.devices.specs.Trace.{Did};
-ghost use Rattle.faults.specs.declared.Layer.TheVariants.{Quota as OfQuota};
 ghost use Rattle.quota.specs.Ration.{Rationed, rationed};
 
-use devices::{Device, ZeroUnheld};
+use devices::{Device, ZeroUnheld, check_buffer, check_number};
 use faults::{Fault, Layer, Refusal};
-
-// How many bytes a block has.
-const BLOCK: usize = 1024;
 
 // A device of which only so many more numbers may be claimed.
 #[derive(Drop)]
@@ -31,23 +27,8 @@ impl<D: Device> Quota<D> {
     pub fn into_below(self) -> D
         ensures { result ≡ self.below }
     {
-        let Quota {
-            below,
-            remainder: _,
-        } = self;
-        below
+        self.below
     }
-}
-
-// A refusal by the quota.
-fn refused(refusal: Refusal, block: u32) -> Result<(), Fault>
-    ensures { result ≡ Err (record { refusal = refusal; layer = OfQuota; block = block }) }
-{
-    Err(Fault {
-        refusal,
-        layer: Layer::Quota,
-        block,
-    })
 }
 
 impl<D: Device> Device for Quota<D> {
@@ -68,14 +49,12 @@ impl<D: Device> Device for Quota<D> {
     }
 
     fn claim(&mut self, n: u32) -> Result<(), Fault> {
-        if n >= self.below.limit() {
-            return refused(Refusal::PastLimit, n);
-        }
+        check_number(Layer::Quota, self.below.limit(), n)?;
         if self.below.holds(n) {
             return self.below.claim(n);
         }
         if self.remainder == 0 {
-            return refused(Refusal::NoClaim, n);
+            return Err(Layer::Quota.fault(Refusal::NoClaim, n));
         }
         self.below.claim(n)?;
         self.remainder -= 1;
@@ -83,24 +62,14 @@ impl<D: Device> Device for Quota<D> {
     }
 
     fn read(&mut self, n: u32, into: &mut [u8]) -> Result<(), Fault> {
-        if into.len() != BLOCK {
-            return refused(Refusal::NotABlock, 0);
-        }
-        if n >= self.below.limit() {
-            return refused(Refusal::PastLimit, n);
-        }
+        check_buffer(Layer::Quota, self.below.limit(), n, into.len())?;
         self.below.read(n, into)
     }
 
     fn write(&mut self, n: u32, from: &[u8]) -> Result<(), Fault> {
-        if from.len() != BLOCK {
-            return refused(Refusal::NotABlock, 0);
-        }
-        if n >= self.below.limit() {
-            return refused(Refusal::PastLimit, n);
-        }
+        check_buffer(Layer::Quota, self.below.limit(), n, from.len())?;
         if !self.below.holds(n) {
-            return refused(Refusal::NotHeld, n);
+            return Err(Layer::Quota.fault(Refusal::NotHeld, n));
         }
         self.below.write(n, from)
     }

@@ -1,8 +1,8 @@
 -- What bytes mean, by cases of whether they are well-formed.
-use Rattle.std.proofs.Common.{◌≡◌, ℕ, suc, ◌+◌, ◌-◌, ◌*◌, ◌<◌, ◌≤◌, Bool, true, false, ◌&&◌, eqb, leb, List, length, take, drop, replicate, Decides, sym, refl, ap, ◌∙◌, ⊎_elim, arith}
+use Rattle.std.proofs.Common.{◌≡◌, ℕ, suc, ◌+◌, ◌-◌, ◌*◌, ◌<◌, ◌≤◌, Bool, true, false, ◌&&◌, eqb, leb, List, length, take, drop, replicate, Some, None, is_some, Decides, sym, refl, ap, ◌∙◌, ⊎_elim, arith}
 use Rattle.devices.specs.Meaning.{Sound, Zeroed}
-use Rattle.slotted.proofs.Tables.{good_rules, rules_good, slot_found, slot_past, zero_or}
-use Rattle.slotted.specs.Image.{WellFormed, block_in, block_of, held_in, left_in, limit_in, meaning_of, slot_in, used_in, well_formed}
+use Rattle.slotted.proofs.Tables.{good_rules, record_none, record_some, some_record, rules_good, slot_found, slot_past, zero_or}
+use Rattle.slotted.specs.Image.{WellFormed, block_in, block_of, held_in, left_in, limit_in, meaning_of, record_in, slot_in, used_in, well_formed}
 use Rattle.slotted.specs.Records.{block_at, records, table_of}
 use Rattle.slotted.specs.Table.{good_to, slot_to, used_to}
 use Rattle.std.proofs.lemmas.List.{length-drop, length-replicate, length-take}
@@ -71,6 +71,14 @@ module _ (s : List ℕ) where
   pub below_formed : (n : ℕ) → n < limit_in s → well_formed s ≡ true
   below_formed n l = ⊎_elim (λ w. w) (λ w. let z : ⊥ = omega (arith, limit_out w) in elim z [ ]) (cases_Bool (well_formed s))
 
+  -- where a record is left, the first that is not used is inside
+  pub room_left : 0 < left_in s → (1030 * used_in s + 1030 ≤ length s) × (used_in s < 65544)
+  room_left free =
+      ⊎_elim
+      (λ w. let p = formed_parts w in (omega (arith, left_formed w, p.0), omega (arith, left_formed w, p.1)))
+      (λ w. absurd (omega (arith, left_out w)))
+      (cases_Bool (well_formed s))
+
   pub past_limit : (n : ℕ) → limit_in s ≤ n → slot_in s n ≡ 0
   past_limit n l =
       ⊎_elim
@@ -87,6 +95,12 @@ module _ (s : List ℕ) where
       omega (arith, r.0, (formed_parts w).0))
       (λ w. let z : ⊥ = omega (arith, slot_not w n) in elim z [ ])
       (cases_Bool (well_formed s))
+
+  pub record_inside : (n k : ℕ) → record_in s n ≡ Some k → 1030 * k + 1030 ≤ length s
+  record_inside n k e = slot_inside n k (record_some (slot_in s n) k e)
+
+  pub held_record : (n : ℕ) → is_some (record_in s n) ≡ held_in s n
+  held_record n = some_record (slot_in s n)
 
   pub held_slot : (n : ℕ) → held_in s n ≡ true → slot_in s n ≡ 0 → ⊥
   held_slot n h e = both_ways (eqb (slot_in s n) 0) (not-true _ h) (eq-eqb (slot_in s n) 0 e)
@@ -110,6 +124,12 @@ module _ (s : List ℕ) where
   pub block_some : (k : ℕ) → block_of s (suc k) ≡ take 1024 (drop (1030 * k + 6) s)
   unfolding block_of block_at
   block_some k = refl
+
+  pub record_block : (n k : ℕ) → record_in s n ≡ Some k → block_in s n ≡ take 1024 (drop (1030 * k + 6) s)
+  record_block n k e = ap (block_of s) (record_some (slot_in s n) k e) ∙ block_some k
+
+  pub no_block : (n : ℕ) → record_in s n ≡ None → block_in s n ≡ replicate 1024 0
+  no_block n e = ap (block_of s) (record_none (slot_in s n) (ap is_some e)) ∙ block_none
 
   pub block_whole : (n : ℕ) → length (block_in s n) ≡ 1024
   block_whole n =

@@ -1,11 +1,11 @@
 pub mod Calls
 pub mod Claims
 pub mod Images
-pub mod Marks
 pub mod Opens
 pub mod Puts
 pub mod Records
 pub mod Same
+pub mod Scans
 pub mod Steps
 pub mod Tables
 pub mod Takes

@@ -1,9 +1,9 @@
 -- Bytes whose records say the same, whatever their blocks are.
-use Rattle.std.proofs.Common.{◌≡◌, ℕ, ◌-◌, ◌*◌, ◌/◌, Bool, cond, not, ◌&&◌, eqb, leb, List, length, ap, ◌∙◌}
+use Rattle.std.proofs.Common.{◌≡◌, ℕ, Bool, not, eqb, List, length, ap, ◌∙◌}
 use mathlib.Core.Path.{fun_ext}
 use Rattle.slotted.specs.Image.{held_in, left_in, limit_in, slot_in, used_in, well_formed}
 use Rattle.slotted.specs.Records.{table_of}
-use Rattle.slotted.specs.Table.{Table, good_to, slot_to, used_to}
+use Rattle.slotted.specs.Table.{Table}
 
 pub same_table : (t e : Table) → ((k : ℕ) → e.used k ≡ t.used k) → ((k : ℕ) → e.free k ≡ t.free k) → ((k : ℕ) → e.number k ≡ t.number k) → e ≡ t
 same_table t e a b c =
@@ -14,31 +14,23 @@ same_table t e a b c =
 module _ (s t : List ℕ) (len : length t ≡ length s) (tab : table_of t ≡ table_of s) where
   pub same_formed : well_formed t ≡ well_formed s
   unfolding well_formed
-  same_formed =
-      let f : ℕ → Table → Bool = λ l x. eqb (1030 * (l / 1030)) l && (leb (l / 1030) 65544 && good_to x 65544 (l / 1030)) in
-      ap (λ (l : ℕ). f l (table_of t)) len ∙ ap (f (length s)) tab
+  same_formed = rw (len, tab)
 
   pub same_slot : (n : ℕ) → slot_in t n ≡ slot_in s n
   unfolding slot_in
-  same_slot n =
-      let f : Bool → ℕ → Table → ℕ = λ w l x. cond w (slot_to x n (l / 1030)) 0 in
-      ap (λ (w : Bool). f w (length t) (table_of t)) same_formed ∙ ap (λ (l : ℕ). f (well_formed s) l (table_of t)) len ∙ ap (f (well_formed s) (length s)) tab
+  same_slot n = rw (same_formed, len, tab)
 
   pub same_used : used_in t ≡ used_in s
   unfolding used_in
-  same_used =
-      let f : Bool → ℕ → Table → ℕ = λ w l x. cond w (used_to x (l / 1030)) 0 in
-      ap (λ (w : Bool). f w (length t) (table_of t)) same_formed ∙ ap (λ (l : ℕ). f (well_formed s) l (table_of t)) len ∙ ap (f (well_formed s) (length s)) tab
+  same_used = rw (same_formed, len, tab)
 
   pub same_left : left_in t ≡ left_in s
   unfolding left_in
-  same_left =
-      let f : Bool → ℕ → ℕ → ℕ = λ w l u. cond w (l / 1030 - u) 0 in
-      ap (λ (w : Bool). f w (length t) (used_in t)) same_formed ∙ ap (λ (l : ℕ). f (well_formed s) l (used_in t)) len ∙ ap (f (well_formed s) (length s)) same_used
+  same_left = rw (same_formed, len, same_used)
 
   pub same_limit : limit_in t ≡ limit_in s
   unfolding limit_in
-  same_limit = ap (λ (w : Bool). cond w 65544 0) same_formed
+  same_limit = rw same_formed
 
   pub same_held : held_in t ≡ held_in s
   same_held = fun_ext (λ n. ap (λ (x : ℕ). not (eqb x 0)) (same_slot n))

@@ -1,54 +1,57 @@
--- One record more: what the index and the count become.
-use Rattle.std.proofs.Common.{◌≡◌, ℕ, suc, ◌+◌, ◌<◌, true, false, List, length, get_or, set, Some, None, sym, refl, ap, ◌∙◌, ⊎_elim, add-one, arith}
-use Rattle.slotted.proofs.Tables.{free_good, good_more, slot_here, slot_other, slot_unused, used_bad, used_good, used_not, used_yes}
-use Rattle.slotted.specs.Table.{Table, Entered, Listed, good_at, good_to, slot_to, used_to}
+-- One record more: what the scan says of the records so far.
+use Rattle.std.proofs.Common.{◌≡◌, ℕ, suc, ◌+◌, ◌<◌, true, false, List, length, get_or, set, Some, None, Option, is_some, sym, refl, ap, ◌∙◌, subst, ⊎_elim, add-one, arith}
+use Rattle.slotted.proofs.Tables.{free_bad, free_good, good_more, good_not, record_none, slot_here, slot_other, slot_unused, used_bad, used_good, used_none, used_not, used_yes}
+use Rattle.slotted.specs.Table.{Table, Listed, Scanned, good_at, good_to, record_of, slot_to, used_to}
 use Rattle.std.proofs.lemmas.List.{get_or-set_other, get_or-set_same, length-set}
 use Rattle.std.proofs.lemmas.Bool.{cases_eq}
 
-module _ (t : Table) (k : ℕ) (index : List ℕ) (used : ℕ) (counted : used ≡ used_to t k) (listed : Listed t k index) where
+pub scan_none : (t : Table) (index : List (Option ℕ)) → Listed t 0 index → Scanned t 0 index (Some 0)
+unfolding good_to
+scan_none t index listed = (refl, sym (used_none t), listed)
+
+module _ (t : Table) (k : ℕ) (index : List (Option ℕ)) (used : ℕ) (scanned : Scanned t k index (Some used)) where
   next : suc k ≡ k + 1
   next = sym (add-one k)
 
-  pub enter_free : t.used k ≡ false → t.free k ≡ true → Entered t k index (Some used)
-  enter_free u f = (
-    free_good t (length index) k u f,
-    counted ∙ sym (used_not t k u) ∙ ap (used_to t) next,
-    λ n h. listed n h ∙ sym (slot_unused t n k u) ∙ ap (slot_to t n) next,
+  more : (e : List (Option ℕ)) → length e ≡ length index → good_at t (length e) k ≡ true → good_to t (length e) (k + 1) ≡ true
+  more e long h = ap (good_to t (length e)) (add-one k) ∙ good_more t (length e) k (subst (λ (x : ℕ). good_to t x k ≡ true) (sym long) scanned.0) h
+
+  pub scan_free : t.used k ≡ false → t.free k ≡ true → Scanned t (k + 1) index (Some used)
+  scan_free u f = (
+    more index refl (free_good t (length index) k u f),
+    scanned.1 ∙ sym (used_not t k u) ∙ ap (used_to t) next,
+    λ n h. scanned.2 n h ∙ ap record_of (sym (slot_unused t n k u) ∙ ap (slot_to t n) next),
   )
 
-  pub enter_bad : (n : ℕ) → t.used k ≡ true → t.number k ≡ n → (used ≡ k → n < length index → get_or index n 0 ≡ 0 → ⊥) → Entered t k index None
-  enter_bad n u e h =
-      used_bad t (length index) k u
-      (λ p.
-      let inside : n < length index = omega (arith, p.1, e) in
-      h (counted ∙ p.0) inside (listed n inside ∙ ap (λ (x : ℕ). slot_to t x k) (sym e) ∙ p.2))
-
-  pub enter_used : (n : ℕ) → t.used k ≡ true → t.number k ≡ n → used ≡ k → n < length index → get_or index n 0 ≡ 0 → Entered t k (set index n (k + 1)) (Some (used + 1))
-  enter_used n u e f l z =
-      let long = length-set index n (k + 1) in
-      let none : slot_to t (t.number k) k ≡ 0 = ap (λ (x : ℕ). slot_to t x k) e ∙ sym (listed n l) ∙ z in (
-        used_good t (length (set index n (k + 1))) k u (sym counted ∙ f) (omega arith) none,
-        (let r = used_yes t k u in let q : used + 1 ≡ used_to t (suc k) = omega arith in q ∙ ap (used_to t) next),
+  pub scan_used : (n : ℕ) → t.used k ≡ true → t.number k ≡ n → used ≡ k → n < length index → is_some (get_or index n None) ≡ false → Scanned t (k + 1) (set index n (Some k)) (Some (used + 1))
+  scan_used n u e f l z =
+      let long = length-set index n (Some k) in
+      let none : slot_to t (t.number k) k ≡ 0 = ap (λ (x : ℕ). slot_to t x k) e ∙ record_none _ (ap is_some (sym (scanned.2 n l)) ∙ z) in (
+        more (set index n (Some k)) long (used_good t _ k u (sym scanned.1 ∙ f) (omega arith) none),
+        (let r = used_yes t k u in let q : used + 1 ≡ used_to t (suc k) = omega (arith, scanned.1) in q ∙ ap (used_to t) next),
         λ m h.
             let inside : m < length index = omega arith in
             ⊎_elim
             (λ q.
-            ap (λ (x : ℕ). get_or (set index n (k + 1)) x 0) q
-            ∙ get_or-set_same index n (k + 1) 0 l
-            ∙ sym next
-            ∙ sym (slot_here t m k u (e ∙ sym q))
-            ∙ ap (slot_to t m) next)
+            ap (λ (x : ℕ). get_or (set index n (Some k)) x None) q
+            ∙ get_or-set_same index n (Some k) None l
+            ∙ ap record_of (sym (slot_here t m k u (e ∙ sym q)) ∙ ap (slot_to t m) next))
             (λ q.
-            get_or-set_other index n m (k + 1) 0 q
-            ∙ listed m inside
-            ∙ sym (slot_other t m k (λ a. q (sym a ∙ e)))
-            ∙ ap (slot_to t m) next)
+            get_or-set_other index n m (Some k) None q
+            ∙ scanned.2 m inside
+            ∙ ap record_of (sym (slot_other t m k (λ a. q (sym a ∙ e))) ∙ ap (slot_to t m) next))
             (cases_eq m n),
       )
 
-pub scan_none : (t : Table) (index : List ℕ) → good_to t (length index) 0 ≡ true
-unfolding good_to
-scan_none t index = refl
+  -- a record that is not good
+  module _ (many : ℕ) (inside : k < many) where
+    pub scan_unmarked : t.used k ≡ false → t.free k ≡ false → Scanned t many index None
+    scan_unmarked u f = good_not t (length index) many k inside (free_bad t (length index) k u f)
 
-pub scan_more : (t : Table) (limit k : ℕ) → good_to t limit k ≡ true → good_at t limit k ≡ true → good_to t limit (k + 1) ≡ true
-scan_more t limit k g h = ap (good_to t limit) (add-one k) ∙ good_more t limit k g h
+    pub scan_bad : (n : ℕ) → t.used k ≡ true → t.number k ≡ n → (used ≡ k → n < length index → is_some (get_or index n None) ≡ false → ⊥) → Scanned t many index None
+    scan_bad n u e h =
+        good_not t (length index) many k inside
+        (used_bad t (length index) k u
+        (λ p.
+        let low : n < length index = omega (arith, p.1, e) in
+        h (scanned.1 ∙ p.0) low (ap is_some (scanned.2 n low ∙ ap record_of (ap (λ (x : ℕ). slot_to t x k) (sym e) ∙ p.2)))))

@@ -1,11 +1,23 @@
-use Rattle.std.proofs.Common.{◌≡◌, ℕ, zero, suc, ◌<◌, ◌≤◌, true, false, ◌&&◌, eqb, ltb, ◌⊎◌, Decides, sym, refl, ap, ◌∙◌, subst, inl, inr, ⊎_elim, arith}
-use Rattle.slotted.specs.Table.{Table, Good, good_at, good_to, slot_to, used_to}
+use Rattle.std.proofs.Common.{◌≡◌, ℕ, zero, suc, ◌<◌, ◌≤◌, true, false, not, ◌&&◌, eqb, ltb, ◌⊎◌, Some, is_some, Decides, sym, refl, ap, ◌∙◌, subst, inl, inr, ⊎_elim, arith}
+use Rattle.slotted.specs.Table.{Table, Good, good_at, good_to, record_of, slot_to, used_to}
 use Rattle.std.proofs.lemmas.Bool.{and_from, and_left, and_parts, and_right, both_ways, cases_Bool, cases_eq, cond-false, cond-true, eq-eqb, eqb-true, lt-ltb, ltb-true, ne_eqb}
 use Rattle.std.proofs.lemmas.Bool.Decides.{Decides-below_and}
 
 pub zero_or : (x : ℕ) → (x ≡ 0) ⊎ ((k : ℕ) × (x ≡ suc k))
 zero_or zero = inl refl
 zero_or (suc k) = inr (k, refl)
+
+pub record_none : (x : ℕ) → is_some (record_of x) ≡ false → x ≡ 0
+record_none zero e = refl
+record_none (suc k) e = cc
+
+pub record_some : (x k : ℕ) → record_of x ≡ Some k → x ≡ suc k
+record_some zero k e = cc
+record_some (suc j) k e = cc
+
+pub some_record : (x : ℕ) → is_some (record_of x) ≡ not (eqb x 0)
+some_record zero = refl
+some_record (suc k) = ap not (sym (ne_eqb (suc k) 0 (λ e. cc)))
 
 module _ (t : Table) where
   pub used_yes : (m : ℕ) → t.used m ≡ true → used_to t (suc m) ≡ suc (used_to t m)

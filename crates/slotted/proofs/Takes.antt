@@ -1,7 +1,6 @@
 -- The first free record, used up by a claim.
 use Rattle.std.proofs.Common.{◌≡◌, ℕ, suc, ◌+◌, ◌-◌, ◌*◌, ◌/◌, ◌%◌, ◌<◌, ◌≤◌, true, false, not, eqb, ◌⊎◌, List, length, get_or, take, drop, replicate, sym, refl, ap, ◌∙◌, subst, inl, inr, ⊎_elim, arith}
 use mathlib.Core.Path.{fun_ext}
-use native.Mathlib.Nat.{div-div-eq-div-mul}
 use Rattle.devices.specs.Meaning as meaning
 use Rattle.devices.specs.Step.{Claimed}
 use Rattle.slotted.proofs.Claims.{Changed, good_after, slot_new, slot_old, used_above}
@@ -10,61 +9,17 @@ use Rattle.slotted.proofs.Puts.{length_put, part_apart, part_within, put_apart, 
 use Rattle.slotted.proofs.Tables.{all_good, first_used, good_free, rest_unused, slot_found, zero_or}
 use Rattle.slotted.proofs.Writes.{head_same}
 use Rattle.slotted.specs.Account.{FirstFree}
-use Rattle.slotted.specs.Bytes.{put}
+use Rattle.devices.specs.Bytes.{put}
 use Rattle.slotted.specs.Image.{block_in, block_of, held_in, left_in, limit_in, meaning_of, slot_in, used_in, well_formed}
 use Rattle.slotted.specs.Records.{fresh, free_at, number_at, records, table_of, used_at}
 use Rattle.slotted.specs.Table.{good_to, slot_to, used_to}
 use Rattle.std.proofs.lemmas.List.{length-replicate, take_all}
+use Rattle.std.proofs.lemmas.Nat.{from_le_bytes-to_le_bytes_4}
 use Rattle.std.proofs.lemmas.Bool.{and_from, both_ways, cases_eq, cond-false, cond-true, eq-eqb, ne_eqb}
 
 pub fresh_length : (n : ℕ) → length (fresh n) ≡ 1030
 unfolding fresh
 fresh_length n = let r = length-replicate {A = ℕ} 1024 0 in omega arith
-
--- the four bytes of a number are that number
-digits : (n a b c w x y z : ℕ) → n ≡ 256 * a + w → a ≡ 256 * b + x → b ≡ 256 * c + y → z ≡ c → w + x * 256 + y * 65536 + z * 16777216 ≡ n
-digits n a b c w x y z e f g h = omega arith
-
-cut : (m : ℕ) → m ≡ 256 * (m / 256) + m % 256
-cut m = omega arith
-
-small : (m : ℕ) → m < 256 → m % 256 ≡ m
-small m l = omega arith
-
-top : (n : ℕ) → n < 4294967296 → n / 16777216 < 256
-top n l = omega arith
-
-four : (n : ℕ) → n < 4294967296 → n % 256 + n / 256 % 256 * 256 + n / 65536 % 256 * 65536 + n / 16777216 % 256 * 16777216 ≡ n
-four n l =
-    digits n (n / 256) (n / 65536) (n / 16777216) _ _ _ _
-    (cut n)
-    (cut (n / 256) ∙ ap (λ (q : ℕ). 256 * q + n / 256 % 256) (div-div-eq-div-mul n 256 256))
-    (cut (n / 65536) ∙ ap (λ (q : ℕ). 256 * q + n / 65536 % 256) (div-div-eq-div-mul n 65536 256))
-    (small (n / 16777216) (top n l))
-
-byte_0 : (n : ℕ) → get_or (fresh n) 0 0 ≡ 83
-unfolding fresh
-byte_0 n = refl
-
-byte_1 : (n : ℕ) → get_or (fresh n) 1 0 ≡ 68
-unfolding fresh
-byte_1 n = refl
-
-byte_2 : (n : ℕ) → get_or (fresh n) 2 0 ≡ n % 256
-unfolding fresh
-byte_2 n = refl
-
-byte_3 : (n : ℕ) → get_or (fresh n) 3 0 ≡ n / 256 % 256
-unfolding fresh
-byte_3 n = refl
-
-byte_4 : (n : ℕ) → get_or (fresh n) 4 0 ≡ n / 65536 % 256
-unfolding fresh
-byte_4 n = refl
-
-byte_5 : (n : ℕ) → get_or (fresh n) 5 0 ≡ n / 16777216 % 256
-unfolding fresh
-byte_5 n = refl
 
 rest : (n : ℕ) → drop 6 (fresh n) ≡ replicate 1024 0
 unfolding fresh
@@ -109,20 +64,20 @@ module _ (s : List ℕ) (n : ℕ) (low : n < limit_in s) (none : slot_in s n ≡
   byte p i l e = ap (λ (x : ℕ). get_or new x 0) e ∙ put_in s (1030 * at) (fresh n) room i 0 (omega (arith, fresh_length n))
 
   used_here : used_at new at ≡ true
-  unfolding used_at
+  unfolding used_at fresh
   used_here =
       and_from _ _
-      (eq-eqb _ _ (byte (1030 * at) 0 (omega arith) (omega arith) ∙ byte_0 n))
-      (eq-eqb _ _ (byte (1030 * at + 1) 1 (omega arith) refl ∙ byte_1 n))
+      (eq-eqb _ _ (byte (1030 * at) 0 (omega arith) (omega arith)))
+      (eq-eqb _ _ (byte (1030 * at + 1) 1 (omega arith) refl))
 
   number_here : number_at new at ≡ n
-  unfolding number_at
+  unfolding number_at fresh
   number_here =
-      let b2 = byte (1030 * at + 2) 2 (omega arith) refl ∙ byte_2 n in
-      let b3 = byte (1030 * at + 2 + 1) 3 (omega arith) (omega arith) ∙ byte_3 n in
-      let b4 = byte (1030 * at + 2 + 2) 4 (omega arith) (omega arith) ∙ byte_4 n in
-      let b5 = byte (1030 * at + 2 + 3) 5 (omega arith) (omega arith) ∙ byte_5 n in
-      let all = four n (omega (arith, below)) in
+      let b2 : get_or new (1030 * at + 2) 0 ≡ n % 256 = byte (1030 * at + 2) 2 (omega arith) refl in
+      let b3 : get_or new (1030 * at + 2 + 1) 0 ≡ n / 256 % 256 = byte (1030 * at + 2 + 1) 3 (omega arith) (omega arith) in
+      let b4 : get_or new (1030 * at + 2 + 2) 0 ≡ n / 65536 % 256 = byte (1030 * at + 2 + 2) 4 (omega arith) (omega arith) in
+      let b5 : get_or new (1030 * at + 2 + 3) 0 ≡ n / 16777216 % 256 = byte (1030 * at + 2 + 3) 5 (omega arith) (omega arith) in
+      let all = from_le_bytes-to_le_bytes_4 n (omega (arith, below)) in
       omega arith
 
   apart : (k : ℕ) → (k ≡ at → ⊥) → (k < at) ⊎ (at < k)

@@ -7,7 +7,7 @@ use Rattle.slotted.proofs.Images.{block_none, block_some, held_inside, slot_held
 use Rattle.slotted.proofs.Puts.{length_put, part_apart, part_within, put_apart}
 use Rattle.slotted.proofs.Same.{same_held, same_left, same_limit, same_slot, same_table}
 use Rattle.slotted.proofs.Tables.{slot_found, zero_or}
-use Rattle.slotted.specs.Bytes.{put}
+use Rattle.devices.specs.Bytes.{put}
 use Rattle.slotted.specs.Image.{block_in, block_of, held_in, meaning_of, slot_in, well_formed}
 use Rattle.slotted.specs.Records.{free_at, number_at, records, table_of, used_at}
 use Rattle.std.proofs.lemmas.List.{take_all}

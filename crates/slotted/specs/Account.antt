@@ -2,7 +2,7 @@
 use Rattle.std.specs.Prelude.{◌≡◌, ℕ, zero, suc, ◌+◌, ◌*◌, ◌<◌, true, false, cond, List, Ok, Err, Result}
 use Rattle.devices.specs.Step.{Call, claim, read, write, flush}
 use Rattle.faults.specs.declared.Fault.{Fault}
-use Rattle.slotted.specs.Bytes.{put}
+use Rattle.devices.specs.Bytes.{put}
 use Rattle.slotted.specs.Image.{held_in, slot_in, used_in}
 use Rattle.slotted.specs.Records.{fresh, free_at, records, used_at}
 

@@ -1,9 +1,5 @@
--- Bytes in a list: a little-endian number, and a write.
-use Rattle.std.specs.Prelude.{ℕ, ◌+◌, ◌*◌, ◌/◌, ◌%◌, List, [], ◌∷◌, ◌++◌, length, take, drop, slice_index}
-
--- bytes written over those from i on
-abbrev pub put : List ℕ → ℕ → List ℕ → List ℕ
-put s i bs = take i s ++ (bs ++ drop (i + length bs) s)
+-- A little-endian number in a list of bytes.
+use Rattle.std.specs.Prelude.{ℕ, ◌+◌, ◌*◌, ◌/◌, ◌%◌, List, [], ◌∷◌, slice_index}
 
 -- the 32-bit number at byte i, the least byte first
 abbrev pub word : List ℕ → ℕ → ℕ

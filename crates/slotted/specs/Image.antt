@@ -1,11 +1,11 @@
 -- What bytes mean as a device.
-use Rattle.std.specs.Prelude.{◌≡◌, ℕ, zero, suc, ◌-◌, ◌*◌, ◌≤◌, Bool, true, cond, not, ◌&&◌, List, length, replicate, ◌==◌, nat_le}
+use Rattle.std.specs.Prelude.{◌≡◌, ℕ, zero, suc, ◌-◌, ◌*◌, ◌<◌, ◌≤◌, Bool, true, cond, not, ◌&&◌, List, length, replicate, None, Option, ◌==◌, nat_le, slice_index_or}
 use Rattle.devices.specs.Meaning.{Meaning}
 use Rattle.devices.specs.Step.{fault}
 use Rattle.faults.specs.declared.Layer.TheVariants.{Bottom}
 use Rattle.faults.specs.declared.Refusal.TheVariants.{NoClaim}
 use Rattle.slotted.specs.Records.{records, block_at, table_of}
-use Rattle.slotted.specs.Table.{Good, good_to, slot_to, used_to}
+use Rattle.slotted.specs.Table.{Good, good_to, record_of, slot_to, used_to}
 
 -- whole records, not too many, and good ones; WellFormed says the same rule by rule
 unfoldable pub well_formed : List ℕ → Bool
@@ -20,6 +20,10 @@ pub record WellFormed (s : List ℕ) : Type 0 where
 unfoldable pub slot_in : List ℕ → ℕ → ℕ
 slot_in s n = cond (well_formed s) (slot_to (table_of s) n (records s)) 0
 
+-- the record that has number n, if one has
+abbrev pub record_in : List ℕ → ℕ → Option ℕ
+record_in s n = record_of (slot_in s n)
+
 unfoldable pub used_in : List ℕ → ℕ
 used_in s = cond (well_formed s) (used_to (table_of s) (records s)) 0
 
@@ -28,6 +32,13 @@ left_in s = cond (well_formed s) (records s - used_in s) 0
 
 unfoldable pub limit_in : List ℕ → ℕ
 limit_in s = cond (well_formed s) 65544 0
+
+-- an index of well-formed bytes, and how many of their records are used
+pub record Indexed (s : List ℕ) (index : List (Option ℕ)) (used : ℕ) : Type 0 where
+  pub formed : well_formed s ≡ true
+  pub sized : length index ≡ limit_in s
+  pub listed : (n : ℕ) → n < limit_in s → slice_index_or index n None ≡ record_in s n
+  pub counted : used ≡ used_in s
 
 abbrev pub held_in : List ℕ → ℕ → Bool
 held_in s n = not (slot_in s n == 0)

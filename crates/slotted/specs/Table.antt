@@ -1,5 +1,5 @@
 -- Which records are used, which are free, and which number each has: what well-formed means speaks of these alone.
-use Rattle.std.specs.Prelude.{◌≡◌, ℕ, zero, suc, ◌+◌, ◌<◌, Bool, true, false, cond, ◌&&◌, List, length, Some, None, Option, ◌==◌, ◌≢◌, nat_lt, slice_index}
+use Rattle.std.specs.Prelude.{◌≡◌, ℕ, zero, suc, ◌<◌, Bool, true, false, cond, ◌&&◌, List, length, Some, None, Option, ◌==◌, ◌≢◌, nat_lt, slice_index_or}
 
 pub record Table : Type 0 where
   pub used : ℕ → Bool
@@ -24,17 +24,17 @@ unfoldable pub good_to : Table → ℕ → ℕ → Bool
 good_to t limit zero = true
 good_to t limit (suc k) = good_at t limit k && good_to t limit k
 
--- an index from numbers to the slots of the first k records
-abbrev pub Listed : Table → ℕ → List ℕ → Type 0
-Listed t k index = (n : ℕ) → n < length index → slice_index index n ≡ slot_to t n k
+-- the record of a slot
+abbrev pub record_of : ℕ → Option ℕ
+record_of zero = None
+record_of (suc k) = Some k
 
--- record k was looked at: it is not good, or it is, and the index and the count go on to the next record
-abbrev pub Entered : Table → ℕ → List ℕ → Option ℕ → Type 0
-Entered t k index None = good_at t (length index) k ≡ false
-Entered t k index (Some used) = (good_at t (length index) k ≡ true) × (used ≡ used_to t (k + 1)) × Listed t (k + 1) index
+-- an index from numbers to those of the first k records
+abbrev pub Listed : Table → ℕ → List (Option ℕ) → Type 0
+Listed t k index = (n : ℕ) → n < length index → slice_index_or index n None ≡ record_of (slot_to t n k)
 
 -- the first k records were looked at
-abbrev pub Scanned : Table → ℕ → List ℕ → Option ℕ → Type 0
+abbrev pub Scanned : Table → ℕ → List (Option ℕ) → Option ℕ → Type 0
 Scanned t k index None = good_to t (length index) k ≡ false
 Scanned t k index (Some used) = (good_to t (length index) k ≡ true) × (used ≡ used_to t k) × Listed t k index
 

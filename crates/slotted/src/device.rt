@@ -1,72 +1,45 @@
-ghost use Rattle.std.specs.Prelude.{◌≡◌, ◌+◌, ◌*◌, ◌<◌, ◌≤◌, length};
-ghost use Rattle.devices.specs.Step.{fault};
-ghost use Rattle.faults.specs.declared.Layer.TheVariants.{Bottom};
+ghost use Rattle.std.specs.Prelude.{◌≡◌, ◌+◌, ◌*◌, ◌<◌, ◌≤◌, length, None, IfSome};
 ghost use Rattle.slotted.specs.Account.{Bytewise};
-ghost use Rattle.slotted.specs.Bytes.{put};
-ghost use Rattle.slotted.specs.Image.{block_in, left_in, limit_in, meaning_of, slot_in, used_in};
+ghost use Rattle.devices.specs.Bytes.{put};
+ghost use Rattle.slotted.specs.Image.{left_in, limit_in, meaning_of, record_in, used_in};
 ghost use Rattle.slotted.specs.Records.{fresh};
 
 use crate::bytes::*;
 use crate::slotted::Slotted;
-use devices::{Device, ZeroUnheld};
+use devices::{BLOCK, Device, ZeroUnheld, check_buffer, check_number};
 use faults::{Fault, Layer, Refusal};
 
-fn refused(refusal: Refusal, n: u32) -> Fault
-    ensures { result ≡ fault refusal Bottom n }
-{
-    Fault {
-        refusal,
-        layer: Layer::Bottom,
-        block: n,
-    }
-}
-
 impl Slotted {
-    // One more than the record of a number, or 0.
-    fn slot(&self, n: u32) -> usize
-        ensures { result ≡ slot_in self.now.bytes.items n }
+    // How many numbers have a block.
+    #[tactic(auto, using(crate::proofs::Images::limit_le))]
+    fn numbers(&self) -> u32
+        ensures { result ≡ limit_in self.now.bytes.items }
     {
-        let n = n as usize;
-        if n < self.index.len() {
-            self.index[n] as usize
-        } else {
-            0
-        }
+        self.index.len() as u32
     }
 
-    // Copies the block of a number into a buffer.
-    fn copy_block(&self, n: u32, into: &mut [u8])
-        requires { length into.old ≡ 1024 }
-        ensures { into.new ≡ block_in self.now.bytes.items n }
+    // The record that has a number.
+    #[tactic(auto, using(crate::proofs::Images::past_limit, crate::proofs::Images::record_inside))]
+    fn record(&self, n: u32) -> Option<usize>
+        ensures value { result ≡ record_in self.now.bytes.items n }
+        ensures inside { IfSome result (λ k. RECORD * k + RECORD ≤ length self.now.bytes.items) }
     {
-        let k = self.slot(n);
-        if k == 0 {
-            into.fill(0);
-        } else {
-            copy_out(&self.bytes, 1030 * (k - 1) + 6, into);
-        }
-    }
-
-    // Makes these bytes the block of record k.
-    fn put_block(&mut self, k: usize, from: &[u8])
-        requires inside { 1030 * k + 1030 ≤ length self.old.bytes.items }
-        requires whole { length from.now ≡ 1024 }
-        ensures { self.new.bytes.items ≡ put self.old.bytes.items (1030 * k + 6) from.now }
-    {
-        put_bytes(&mut self.bytes, 1030 * k + 6, from);
+        self.index.get(n as usize)?.map(|k| k as usize)
     }
 
     // Uses up the first free record.
+    #[tactic(auto, using(crate::proofs::Images::room_left))]
     fn take_record(&mut self, n: u32)
         requires low { n < limit_in self.old.bytes.items }
-        requires none { slot_in self.old.bytes.items n ≡ 0 }
+        requires none { record_in self.old.bytes.items n ≡ None }
         requires free { 0 < left_in self.old.bytes.items }
         ensures { self.new.bytes.items ≡ put self.old.bytes.items (1030 * used_in self.old.bytes.items) (fresh n) }
     {
-        put_record(&mut self.bytes, 1030 * self.used, n);
+        let at = RECORD * self.used;
+        put_fresh(&mut self.bytes[at..at + RECORD], n);
+        self.index[n as usize] = Some(self.used as u32);
         self.used += 1;
         self.left -= 1;
-        self.index[n as usize] = self.used as u32;
     }
 }
 
@@ -75,55 +48,51 @@ impl Device for Slotted {
 
     ghost steps = { λ d c r e. Bytewise d.bytes.items c r e.bytes.items };
 
+    #[tactic(auto, using(crate::proofs::Images::sound_of))]
     fn limit(&self) -> u32 {
-        self.index.len() as u32
+        self.numbers()
     }
 
     fn left(&self) -> u32 {
         self.left
     }
 
+    #[tactic(auto, using(crate::proofs::Images::held_record, crate::proofs::Images::held_inside))]
     fn holds(&self, n: u32) -> bool {
-        self.slot(n) != 0
+        self.record(n).is_some()
     }
 
     fn claim(&mut self, n: u32) -> Result<(), Fault> {
-        if n as usize >= self.index.len() {
-            return Err(refused(Refusal::PastLimit, n));
-        }
-        if self.slot(n) != 0 {
+        check_number(Layer::Bottom, self.numbers(), n)?;
+        if self.record(n).is_some() {
             return Ok(());
         }
         if self.left == 0 {
-            return Err(refused(Refusal::NoClaim, n));
+            return Err(Layer::Bottom.fault(Refusal::NoClaim, n));
         }
         self.take_record(n);
         Ok(())
     }
 
     fn read(&mut self, n: u32, into: &mut [u8]) -> Result<(), Fault> {
-        if into.len() != 1024 {
-            return Err(refused(Refusal::NotABlock, 0));
+        check_buffer(Layer::Bottom, self.numbers(), n, into.len())?;
+        match self.record(n) {
+            Some(k) => {
+                let at = RECORD * k + HEADER;
+                into.copy_from_slice(&self.bytes[at..at + BLOCK]);
+            }
+            None => into.fill(0),
         }
-        if n as usize >= self.index.len() {
-            return Err(refused(Refusal::PastLimit, n));
-        }
-        self.copy_block(n, into);
         Ok(())
     }
 
     fn write(&mut self, n: u32, from: &[u8]) -> Result<(), Fault> {
-        if from.len() != 1024 {
-            return Err(refused(Refusal::NotABlock, 0));
-        }
-        if n as usize >= self.index.len() {
-            return Err(refused(Refusal::PastLimit, n));
-        }
-        let k = self.slot(n);
-        if k == 0 {
-            return Err(refused(Refusal::NotHeld, n));
-        }
-        self.put_block(k - 1, from);
+        check_buffer(Layer::Bottom, self.numbers(), n, from.len())?;
+        let Some(k) = self.record(n) else {
+            return Err(Layer::Bottom.fault(Refusal::NotHeld, n));
+        };
+        let at = RECORD * k + HEADER;
+        self.bytes[at..at + BLOCK].copy_from_slice(from);
         Ok(())
     }
 
@@ -133,5 +102,6 @@ impl Device for Slotted {
 }
 
 impl ZeroUnheld for Slotted {
+    #[tactic(auto, using(crate::proofs::Images::zeroed_of))]
     fn unheld_are_zeros(&self) {}
 }

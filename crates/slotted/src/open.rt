@@ -1,51 +1,50 @@
-ghost use Rattle.std.specs.Prelude.{◌≡◌, ℕ, ◌<◌, false, IfOk, vec_len, Decides, MatchResult, slice_index};
-ghost use Rattle.slotted.specs.Image.{WellFormed, well_formed};
+ghost use Rattle.std.specs.Prelude.{◌≡◌, false, IfOk, MatchOption, MatchResult, Decides};
+ghost use Rattle.slotted.specs.Image.{Indexed, WellFormed, well_formed};
 
+use crate::bytes::RECORD;
 use crate::index::scan;
 use crate::slotted::Slotted;
+use devices::MOST_BLOCKS;
 use std::alloc::{AllocError, AllocFailed, Global};
 
-// An index in which no number has a record.
-fn empty_index(heap: Global, limit: usize) -> Result<Vec<u32>, AllocError>
-    ensures len { IfOk result (λ v. vec_len v ≡ limit) }
-    ensures zeros { IfOk result (λ v. (n : ℕ) → n < limit → slice_index v.items n ≡ 0) }
+// The index of the records in the bytes, and how many of them are used; nothing where the bytes are not well-formed.
+fn indexed(heap: Global, bytes: &[u8]) -> Result<Option<(Vec<Option<u32>>, usize)>, AllocError>
+    ensures { IfOk result (λ found. MatchOption found (well_formed bytes.now ≡ false) (λ p. Indexed bytes.now p.0.items p.1)) }
 {
-    vec![in heap; 0; limit]
-}
-
-// Bytes that are not well-formed.
-fn unformed(heap: Global, bytes: Vec<u8>) -> Slotted
-    requires { well_formed bytes.items ≡ false }
-    ensures { result.bytes ≡ bytes }
-{
-    Slotted {
-        bytes,
-        index: Vec::new(heap),
-        used: 0,
-        left: 0,
+    let records = bytes.len() / RECORD;
+    if RECORD * records != bytes.len() || records > MOST_BLOCKS as usize {
+        return Ok(None);
     }
+    let mut index = vec![in heap; None; MOST_BLOCKS as usize]?;
+    let Some(used) = scan(bytes, &mut index) else {
+        return Ok(None);
+    };
+    Ok(Some((index, used)))
 }
 
 impl Slotted {
     // Takes the bytes over, whatever they are. Where there is no memory for the index they are given back.
+    #[tactic(auto, using(crate::proofs::Opens::unused, crate::proofs::Images::limit_out, crate::proofs::Images::used_out, crate::proofs::Images::left_out))]
     pub fn open(heap: Global, bytes: Vec<u8>) -> Result<Slotted, AllocFailed<Vec<u8>>>
         ensures { MatchResult result (λ s. s.bytes ≡ bytes) (λ e. e.value ≡ bytes) }
     {
-        let records = bytes.len() / 1030;
-        if 1030 * records != bytes.len() || records > 65544 {
-            return Ok(unformed(heap, bytes));
-        }
-        let Ok(mut index) = empty_index(heap, 65544) else {
-            return Err(AllocFailed { value: bytes });
-        };
-        match scan(&bytes, &mut index) {
-            Some(used) => Ok(Slotted {
+        match indexed(heap, &bytes) {
+            Ok(Some((index, used))) => {
+                let left = (bytes.len() / RECORD - used) as u32;
+                Ok(Slotted {
+                    bytes,
+                    index,
+                    used,
+                    left,
+                })
+            }
+            Ok(None) => Ok(Slotted {
                 bytes,
-                index,
-                used,
-                left: (records - used) as u32,
+                index: Vec::new(heap),
+                used: 0,
+                left: 0,
             }),
-            None => Ok(unformed(heap, bytes)),
+            Err(_) => Err(AllocFailed { value: bytes }),
         }
     }
 
@@ -53,16 +52,11 @@ impl Slotted {
     pub fn into_bytes(self) -> Vec<u8>
         ensures { result ≡ self.bytes }
     {
-        let Slotted {
-            bytes,
-            index: _,
-            used: _,
-            left: _,
-        } = self;
-        bytes
+        self.bytes
     }
 
     // Whether the bytes are well-formed.
+    #[tactic(auto, using(crate::proofs::Opens::index_tells))]
     pub fn well_formed(&self) -> bool
         ensures { Decides result (WellFormed self.now.bytes.items) }
     {

@@ -1,17 +1,13 @@
 // A part of any device as a device.
 #![tactic(auto)]
 
-ghost use Rattle.std.specs.Prelude.{◌≡◌, Err};
+ghost use Rattle.std.specs.Prelude.{◌≡◌};
 ghost use Rattle.devices.specs.Trace.{Did};
-ghost use Rattle.faults.specs.declared.Layer.TheVariants.{Window as OfWindow};
 ghost use Rattle.devices.specs.Meaning.{Sound};
 ghost use Rattle.window.specs.Part.{Seen, reach, seen};
 
-use devices::{Device, ZeroUnheld};
+use devices::{Device, ZeroUnheld, check_buffer, check_number};
 use faults::{Fault, Layer, Refusal};
-
-// How many bytes a block has.
-const BLOCK: usize = 1024;
 
 // The blocks of a device from a base on, at most so many.
 #[derive(Drop)]
@@ -46,24 +42,8 @@ impl<D: Device> Window<D> {
     pub fn into_below(self) -> D
         ensures { result ≡ self.below }
     {
-        let Window {
-            below,
-            base: _,
-            length: _,
-        } = self;
-        below
+        self.below
     }
-}
-
-// A refusal by the window.
-fn refused(refusal: Refusal, block: u32) -> Result<(), Fault>
-    ensures { result ≡ Err (record { refusal = refusal; layer = OfWindow; block = block }) }
-{
-    Err(Fault {
-        refusal,
-        layer: Layer::Window,
-        block,
-    })
 }
 
 impl<D: Device> Device for Window<D> {
@@ -84,31 +64,19 @@ impl<D: Device> Device for Window<D> {
     }
 
     fn claim(&mut self, n: u32) -> Result<(), Fault> {
-        if n >= self.reach() {
-            return refused(Refusal::PastLimit, n);
-        }
+        check_number(Layer::Window, self.reach(), n)?;
         self.below.claim(self.base + n)
     }
 
     fn read(&mut self, n: u32, into: &mut [u8]) -> Result<(), Fault> {
-        if into.len() != BLOCK {
-            return refused(Refusal::NotABlock, 0);
-        }
-        if n >= self.reach() {
-            return refused(Refusal::PastLimit, n);
-        }
+        check_buffer(Layer::Window, self.reach(), n, into.len())?;
         self.below.read(self.base + n, into)
     }
 
     fn write(&mut self, n: u32, from: &[u8]) -> Result<(), Fault> {
-        if from.len() != BLOCK {
-            return refused(Refusal::NotABlock, 0);
-        }
-        if n >= self.reach() {
-            return refused(Refusal::PastLimit, n);
-        }
+        check_buffer(Layer::Window, self.reach(), n, from.len())?;
         if !self.below.holds(self.base + n) {
-            return refused(Refusal::NotHeld, n);
+            return Err(Layer::Window.fault(Refusal::NotHeld, n));
         }
         self.below.write(self.base + n, from)
     }

@@ -1,20 +1,76 @@
-use Rattle.std.proofs.Common.{◌≡◌, ℕ, true, length, sym, subst, arith}
+use Rattle.std.proofs.Common.{◌≡◌, sym, ◌∙◌, inl, arith, rules}
 use Rattle.slotted.proofs.index.scan.Goals as goal
-use Rattle.slotted.proofs.Steps.{scan_more, scan_none}
-use Rattle.slotted.proofs.Tables.{good_not, used_none}
-use Rattle.slotted.specs.Records.{records, table_of}
-use Rattle.slotted.specs.Table.{good_to}
+use Rattle.slotted.proofs.index.scan.Goals.{then-used-k-via-then-used-k, then-used-k-via-else-used-k+then-n-index, then-used-k-via-else-used-k+else-n-index+then-is_some}
+use Rattle.slotted.proofs.Scans.{to_come, turn}
+use Rattle.slotted.proofs.Steps.{scan_bad, scan_free, scan_none, scan_unmarked, scan_used}
+use Rattle.slotted.specs.Records.{table_of}
+use Rattle.std.proofs.lemmas.Bool.{both_ways}
+use Rattle.std.specs.Iterator.Adapters.{enumerate_count, enumerate_source}
+use Rattle.std.specs.Slice.Iter.{chunks_exact_rest, chunks_exact_size}
 
 pub loop-k-init : goal.loop-k-init
-loop-k-init c = (scan_none (table_of c.args.bytes.now) c.args.index.now, sym (used_none (table_of c.args.bytes.now)), c.requires.listed)
+loop-k-init c =
+    let s = c.args.bytes.now in
+    let it = c.into_iter-k-iterator.result in
+    let n : enumerate_count it ≡ 0 = search rules in
+    let z : chunks_exact_size (enumerate_source it) ≡ 1030 = search rules in
+    let left : chunks_exact_rest (enumerate_source it) ≡ s = search rules in
+    record {
+      can_next = (omega arith, tt, inl (rw n (to_come s _ 0 _ z (omega arith) left c.requires.few)));
+      is_finite = tt;
+      size = z;
+      inside = omega arith;
+      rest = rw n left;
+      scanned = rw n (scan_none (table_of s) c.args.index.now c.requires.listed);
+    }
 
-pub returns-in_err-used : goal.returns-in_err-used
-returns-in_err-used c = rw c.from_residual.ensures (good_not (table_of c.args.bytes.now) (length c.enter.new.index) (records c.args.bytes.now) c.loop-k.k c.loop-k-test.true c.in_err-used.ensures)
+pub loop-k-preserved-then-blank : goal.loop-k-preserved-then-blank
+loop-k-preserved-then-blank c =
+    let s = c.args.bytes.now in
+    let i = c.loop-k.invariant in
+    let h = c.in-Some.ensures.steps in
+    let t = turn s _ _ _ _ h.0.1.0 (h.0.1.1 ∙ i.size) i.rest in
+    let n = h.2 in
+    let z = h.0.0 ∙ i.size in
+    record {
+      can_next = (omega arith, tt, inl (rw n (to_come s _ _ _ z t.inside t.left c.requires.few)));
+      is_finite = tt;
+      size = z;
+      inside = omega (arith, n, t.inside);
+      rest = rw n t.left;
+      scanned = rw n (scan_free (table_of s) _ _ _ i.scanned (t.used ∙ sym c.marked.ensures ∙ c.if-not-marked.true) (t.free ∙ sym c.blank.ensures ∙ c.if-blank.true));
+    }
+
+pub returns-then-not-marked : goal.returns-then-not-marked
+returns-then-not-marked c =
+    let s = c.args.bytes.now in
+    let i = c.loop-k.invariant in
+    let h = c.in-Some.ensures.steps in
+    let t = turn s _ _ _ _ h.0.1.0 (h.0.1.1 ∙ i.size) i.rest in
+    scan_unmarked (table_of s) _ _ _ i.scanned _ t.below (t.used ∙ sym c.marked.ensures ∙ c.if-not-marked.true) (t.free ∙ sym c.blank.ensures ∙ c.if-blank.false)
+
+pub returns-then-used-k : goal.returns-then-used-k
+returns-then-used-k c =
+    let s = c.args.bytes.now in
+    let i = c.loop-k.invariant in
+    let h = c.in-Some.ensures.steps in
+    let t = turn s _ _ _ _ h.0.1.0 (h.0.1.1 ∙ i.size) i.rest in
+    scan_bad (table_of s) _ _ _ i.scanned _ t.below c.number-n.result (t.used ∙ sym c.marked.ensures ∙ c.if-not-marked.false) (t.number ∙ sym c.number-n.ensures)
+    (λ a b d. elim c.then-used-k.branch [ then-used-k-via-then-used-k w ↦ omega (arith, w.if-used-k.true, h.1) | then-used-k-via-else-used-k+then-n-index w ↦ omega (arith, w.if-n-index.true) | then-used-k-via-else-used-k+else-n-index+then-is_some w ↦ both_ways _ d (sym w.is_some.ensures ∙ w.if-is_some.true) ])
 
 pub loop-k-preserved : goal.loop-k-preserved
 loop-k-preserved c =
-    let t = table_of c.args.bytes.now in
-    let e = c.in_ok-used.ensures in
-    let same : length c.loop-k.index ≡ length c.enter.new.index = omega arith in
-    let g : good_to t (length c.enter.new.index) c.loop-k.k ≡ true = subst (λ (n : ℕ). good_to t n c.loop-k.k ≡ true) same c.loop-k.invariant.0 in
-    (scan_more t (length c.enter.new.index) c.loop-k.k g e.0, e.1, e.2)
+    let s = c.args.bytes.now in
+    let i = c.loop-k.invariant in
+    let h = c.in-Some.ensures.steps in
+    let t = turn s _ _ _ _ h.0.1.0 (h.0.1.1 ∙ i.size) i.rest in
+    let n = h.2 in
+    let z = h.0.0 ∙ i.size in
+    record {
+      can_next = (omega arith, tt, inl (rw n (to_come s _ _ _ z t.inside t.left c.requires.few)));
+      is_finite = tt;
+      size = z;
+      inside = omega (arith, n, t.inside);
+      rest = rw n t.left;
+      scanned = rw (n, h.1) (scan_used (table_of s) _ _ _ i.scanned c.number-n.result (t.used ∙ sym c.marked.ensures ∙ c.if-not-marked.false) (t.number ∙ sym c.number-n.ensures) (omega (arith, h.1)) (omega arith) (sym c.is_some.ensures ∙ c.if-is_some.false));
+    }

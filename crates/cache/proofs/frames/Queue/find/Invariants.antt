@@ -3,5 +3,5 @@ use Rattle.cache.proofs.frames.Queue.find.Given as goal
 use Rattle.cache.specs.InUse.{in_use}
 use Rattle.cache.specs.Whole.{at}
 
-abbrev pub invariant-loop-i : goal.invariant-loop-i
-invariant-loop-i l = (j : ℕ) → l.i ≤ j → j < length (in_use l.self) → (at (in_use l.self) j).number ≡ l.n → ⊥
+abbrev pub invariant-loop-age : goal.invariant-loop-age
+invariant-loop-age l = (j : ℕ) → l.age ≤ j → j < length (in_use l.self) → (at (in_use l.self) j).number ≡ l.n → ⊥

@@ -1,8 +1,8 @@
-use Rattle.std.proofs.Common.{◌≡◌, ◌++◌, take, drop}
+use Rattle.std.proofs.Common.{◌≡◌, ◌++◌, drop}
 use Rattle.cache.proofs.frames.Queue.forget.Given as goal
 use Rattle.cache.specs.After.{without}
 use Rattle.cache.specs.InUse.{in_use}
 
--- the first i frames have been sifted
-abbrev pub invariant-loop-i : goal.invariant-loop-i
-invariant-loop-i l = in_use l.self ≡ drop l.i (in_use l.initial.self) ++ without (take l.i (in_use l.initial.self)) l.n
+-- what is kept so far, and what is to be kept of the rest
+abbrev pub invariant-loop-age : goal.invariant-loop-age
+invariant-loop-age l = in_use l.kept ++ without (drop l.age (in_use l.self)) l.n ≡ without (in_use l.self) l.n

@@ -1,12 +1,6 @@
-use Rattle.std.proofs.Common.{sym, ◌∙◌, arith, rules}
+use Rattle.std.proofs.Common.{sym, ◌∙◌, arith}
 use Rattle.cache.proofs.Rings.{length_ring, ring_at}
 use Rattle.cache.proofs.frames.Queue.frame.Goals as goal
-
-pub overflow_add-self : goal.overflow_add-self
-overflow_add-self c =
-    let t = c.args.self.now in
-    let n = length_ring t.table.frames t.start t.count in
-    search rules
 
 pub returns : goal.returns
 returns c =

@@ -12,7 +12,8 @@ use keys::hash_of;
 use page_edits::{append, keep, without};
 use pages::PairPage;
 
-// What sym_find answers where the key is not there, and where the page is not good: no offset is as large.
+// What sym_find answers where the key is not there, and where the page is not good: no offset is as large. C's interface
+// needs the two codes, as one number stands for all three answers.
 const NOT_THERE: u32 = 2000;
 
 const NOT_GOOD: u32 = 3000;
@@ -28,7 +29,7 @@ pub extern "C" fn sym_hash(key: &[u8]) -> u32
 pub extern "C" fn sym_check(page: &[u8]) -> bool
     ensures { Decides result (Good page.now) }
 {
-    PairPage::read(page).is_good()
+    PairPage::check(page).is_some()
 }
 
 // Where the value of the key starts.
@@ -36,54 +37,42 @@ pub extern "C" fn sym_check(page: &[u8]) -> bool
 pub extern "C" fn sym_find(page: &[u8], key: &[u8]) -> u32
     ensures { StartsAt page.now key.now result }
 {
-    let pairs = PairPage::read(page);
-    if !pairs.is_good() {
+    let Some(pairs) = PairPage::check(page) else {
         return NOT_GOOD;
-    }
-    match pairs.find(key) {
-        Some((offset, _)) => u32::from(offset),
-        None => NOT_THERE,
-    }
+    };
+    pairs
+        .find(key)
+        .map_or(NOT_THERE, |(offset, _)| u32::from(offset))
 }
 
+// Each of the three edits checks its page in its own body, in three lines: one function for all would take the edit as a
+// closure over page and buffer, and say its clause by what the closure says. That is no shorter.
 #[unsafe(no_mangle)]
 pub extern "C" fn sym_without(page: &[u8], key: &[u8], out: &mut [u8]) -> bool
     ensures { Edited page.now out.old result (λ new. new ≡ written (dropped key.now (pairs_of page.now))) out.new }
 {
-    let pairs = PairPage::read(page);
-    if !pairs.is_good() {
+    let Some(pairs) = PairPage::check(page) else {
         return false;
-    }
-    match without(&pairs, key, out) {
-        Ok(_) => true,
-        Err(_) => false,
-    }
+    };
+    without(&pairs, key, out).is_ok()
 }
 
 #[unsafe(no_mangle)]
 pub extern "C" fn sym_append(page: &[u8], key: &[u8], value: &[u8], out: &mut [u8]) -> bool
     ensures { Edited page.now out.old result (IfItFits (with_pair (pairs_of page.now) key.now value.now) out.old) out.new }
 {
-    let pairs = PairPage::read(page);
-    if !pairs.is_good() {
+    let Some(pairs) = PairPage::check(page) else {
         return false;
-    }
-    match append(&pairs, key, value, out) {
-        Ok(_) => true,
-        Err(_) => false,
-    }
+    };
+    append(&pairs, key, value, out).is_ok()
 }
 
 #[unsafe(no_mangle)]
 pub extern "C" fn sym_keep(page: &[u8], bits: u32, low: u32, out: &mut [u8]) -> bool
     ensures { Edited page.now out.old result (λ new. new ≡ written (falling bits low (pairs_of page.now))) out.new }
 {
-    let pairs = PairPage::read(page);
-    if !pairs.is_good() {
+    let Some(pairs) = PairPage::check(page) else {
         return false;
-    }
-    match keep(&pairs, bits, low, out) {
-        Ok(()) => true,
-        Err(_) => false,
-    }
+    };
+    keep(&pairs, bits, low, out).is_ok()
 }

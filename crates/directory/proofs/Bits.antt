@@ -1,8 +1,8 @@
 -- The directory's bits as code reads and sets them, and the low bits as code masks them.
-use Rattle.std.proofs.Common.{◌≡◌, ℕ, suc, ◌+◌, ◌-◌, ◌*◌, ◌/◌, ◌%◌, ◌^◌, ◌<◌, ◌≤◌, Bool, true, false, eqb, ltb, List, length, get_or, set, sym, refl, ap, ◌∙◌, subst, ⊎_elim, mod-eq_of_lt, one-mul, pow-suc, arith, get_or-set_other, get_or-set_same, pow_pos, pow-add}
+use Rattle.std.proofs.Common.{◌≡◌, ℕ, Option, Some, None, MatchOption, unwrap_or, Bor, suc, ◌+◌, ◌-◌, ◌*◌, ◌/◌, ◌%◌, ◌^◌, ◌<◌, ◌≤◌, Bool, true, false, eqb, ltb, List, length, get_or, set, sym, refl, ap, ◌∙◌, subst, ⊎_elim, mod-eq_of_lt, one-mul, pow-suc, arith, get_or-set_other, get_or-set_same, pow_pos, pow-add}
 use native.Mathlib.Nat.{zero-div, div_self, div-eq_of_lt, mul-mod_left}
+use Rattle.std.specs.Option.{option_map}
 use lib.Bits.{bit_and, bit_or, and_mask, or_shr, or_mod, or_zero_r}
-use lib.ListN.{get_or-eq_default}
 use lib.Pow.{pow-lt, shl-shr}
 use Rattle.std.proofs.lemmas.Bool.{cond-true, cond-false, cond_both, lt-ltb, le-ltb, eq-eqb, ne_eqb, cases_eq, cases_lt, cases_order}
 use Rattle.directory.specs.Tree.{bit, low, bits_of, set_bit}
@@ -29,14 +29,14 @@ bits_out bytes i l = cond-false (ltb i 32767) (eqb (bit (get_or bytes (i / 8) 0)
 pub bits_from : (bytes : List ℕ) (i : ℕ) {x : ℕ} → i < 32767 → x ≡ bit (get_or bytes (i / 8) 0) (i % 8) → eqb x 1 ≡ bits_of bytes i
 bits_from bytes i l e = ap (λ (x : ℕ). eqb x 1) e ∙ sym (bits_in bytes i l)
 
--- past the end of the bytes each bit is clear
-pub bits_past : (bytes : List ℕ) (i : ℕ) → length bytes ≤ i / 8 → bits_of bytes i ≡ false
-unfolding bits_of
-bits_past bytes i l =
-    let zeros : eqb (bit (get_or bytes (i / 8) 0) (i % 8)) 1 ≡ false
-    = ap (λ (x : ℕ). eqb (bit x (i % 8)) 1) (get_or-eq_default bytes 0 l)
-    ∙ ap (λ (x : ℕ). eqb (x % 2) 1) (zero-div (2 ^ (i % 8))) in
-    cond_both (ltb i 32767) (eqb (bit (get_or bytes (i / 8) 0) (i % 8)) 1) false (λ b. b ≡ false) (λ _. zeros) (λ _. refl)
+-- the byte that code finds, if there is one, has the bit; past the end of the bytes each bit is clear
+pub bit_found : (bytes : List ℕ) (i : ℕ) (byte : Option (Bor ℕ)) (r : Bool) → i < 32767
+    → unwrap_or (option_map (λ b. b.now) byte) 0 ≡ get_or bytes (i / 8) 0
+    → MatchOption byte (r ≡ false) (λ b. r ≡ eqb (bit_and (b.now / 2 ^ (i % 8)) 1) 1)
+    → r ≡ bits_of bytes i
+bit_found bytes i (Some b) r l e is = is ∙ bits_from bytes i l (bit_masked b.now (i % 8) ∙ ap (λ (x : ℕ). bit x (i % 8)) e)
+bit_found bytes i None r l e is =
+    is ∙ bits_from bytes i {x = 0} l (sym (ap (λ (x : ℕ). x % 2) (zero-div (2 ^ (i % 8)))) ∙ ap (λ (x : ℕ). bit x (i % 8)) e)
 
 -- one bit set among bits
 

@@ -1,5 +1,5 @@
 -- The low bits of a number.
-use Rattle.std.proofs.Common.{◌≡◌, ℕ, suc, ◌+◌, ◌-◌, ◌*◌, ◌/◌, ◌%◌, ◌^◌, ◌<◌, ◌≤◌, eqb, sym, ap, ◌∙◌, subst, mod-lt, mod-eq_of_lt, add_comm, one-add, arith, pow_pos, pow_mono}
+use Rattle.std.proofs.Common.{◌≡◌, ℕ, suc, ◌+◌, ◌-◌, ◌*◌, ◌/◌, ◌%◌, ◌^◌, ◌<◌, ◌≤◌, sym, ap, ◌∙◌, subst, mod-lt, mod-eq_of_lt, add_comm, one-add, arith, pow_pos, pow_mono}
 use lib.Pow.{mod-pow-add, mod-mod-pow, field}
 use Rattle.directory.specs.Tree.{bit, low}
 
@@ -28,7 +28,3 @@ low_low h s t l =
 -- numbers that agree in t low bits agree in fewer
 pub low_fewer : (g h s t : ℕ) → s ≤ t → low g t ≡ low h t → low g s ≡ low h s
 low_fewer g h s t l e = sym (low_low g s t l) ∙ ap (λ (x : ℕ). low x s) e ∙ low_low h s t l
-
--- a test of what equals y is a test of y
-pub eqb_of : (y p : ℕ) {x : ℕ} → x ≡ y → eqb x p ≡ eqb y p
-eqb_of y p e = ap (λ (z : ℕ). eqb z p) e

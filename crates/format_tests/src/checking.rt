@@ -1,5 +1,5 @@
 // Which pages are good.
-use crate::building::{page_of, put16};
+use crate::building::page_of;
 use pages::PairPage;
 
 fn is_good(numbers: &[u16], tail: &[u8]) -> bool {
@@ -75,13 +75,16 @@ fn keys_twice(rt: HostRuntime) {
     assert!(rt; is_good(&[4, 1023, 1023, 1021, 1021], b"aaa"), "a, aa");
 }
 
-// A page of so many pairs: keys of one byte, each another one, and empty values.
+// A page of so many pairs: keys of one byte, each another one, and empty values. Over the numbers of the pairs: of 205 the last
+// key lies over an offset, so that the order of the writes counts.
 fn short_pairs(many: u8) -> [u8; 1024] {
-    let mut page = page_of(&[2 * many as u16], b"");
-    for k in 0..many as u16 {
-        put16(&mut page, 4 * k as usize + 2, 1023 - k);
-        put16(&mut page, 4 * k as usize + 4, 1023 - k);
-        page[1023 - k as usize] = k as u8;
+    let mut page = page_of(&[2 * u16::from(many)], b"");
+    for k in 0..many {
+        let key = 1023 - u16::from(k);
+        let [low, high] = key.to_le_bytes();
+        let at = 4 * usize::from(k) + 2;
+        page[at..at + 4].copy_from_slice(&[low, high, low, high]);
+        page[usize::from(key)] = k;
     }
     page
 }

@@ -1,8 +1,6 @@
 // Two files together: bit 0 of the directory is set, so that even hashes are at home on page 0 and odd ones on page 1.
-use crate::building::{numbers, page_of};
+use crate::building::{Numbers, page_of, told};
 use image::Image;
-
-type Numbers = (u8, u8, u32);
 
 // Page 0 has the stray pair (a, 3) and the pair (b, 4); page 1 has (a, 12), the stray (d, 5) and (c, empty).
 fn pages() -> [u8; 3072] {
@@ -15,55 +13,30 @@ fn pages() -> [u8; 3072] {
 // Two pages, one after the other, and a third one of zeros.
 fn join(first: &[u8; 1024], second: &[u8; 1024]) -> [u8; 3072] {
     let mut pages = [0; 3072];
-    for i in 0..1024 {
-        pages[i] = first[i];
-        pages[1024 + i] = second[i];
-    }
+    pages[..1024].copy_from_slice(first);
+    pages[1024..2048].copy_from_slice(second);
     pages
 }
 
-// The first bytes of these, as many as there are.
-fn cut(bytes: &[u8], many: usize) -> &[u8] {
-    &bytes[..many.min(bytes.len())]
-}
-
-// Whether the key has this value.
-fn has(image: &Image, key: &[u8], value: &[u8]) -> bool {
-    match image.value_of(key) {
-        Ok(Some(found)) => found == value,
-        _ => false,
-    }
-}
-
-fn lacks(image: &Image, key: &[u8]) -> bool {
-    match image.value_of(key) {
-        Ok(None) => true,
-        _ => false,
-    }
-}
-
-fn refused(image: &Image, key: &[u8]) -> Option<Numbers> {
-    match image.value_of(key) {
-        Ok(_) => None,
-        Err(fault) => Some(numbers(&fault)),
-    }
+// These pages up to one byte before page 1 ends.
+fn cut(pages: &[u8; 3072]) -> &[u8] {
+    &pages[..2047]
 }
 
 // The place of the next pair, or the refusal; no place at the end.
 fn next(image: &Image, page: u32, number: usize) -> Result<Option<(u32, usize)>, Numbers> {
-    match image.next_pair(page, number) {
-        Ok(Some(pair)) => Ok(Some((pair.page, pair.number))),
-        Ok(None) => Ok(None),
-        Err(fault) => Err(numbers(&fault)),
-    }
+    let next = told(image.next_pair(page, number))?;
+    Ok(next.map(|pair| (pair.page, pair.number)))
 }
 
-// Whether the next pair is this one.
-fn shows(image: &Image, page: u32, number: usize, key: &[u8], value: &[u8]) -> bool {
-    match image.next_pair(page, number) {
-        Ok(Some(pair)) => pair.key == key && pair.value == value,
-        _ => false,
-    }
+// The key and the value of the next pair, or the refusal.
+fn pair<'a>(
+    image: &Image<'a>,
+    page: u32,
+    number: usize,
+) -> Result<Option<(&'a [u8], &'a [u8])>, Numbers> {
+    let next = told(image.next_pair(page, number))?;
+    Ok(next.map(|pair| (pair.key, pair.value)))
 }
 
 #[test]
@@ -73,12 +46,16 @@ fn values(rt: HostRuntime) {
         dir: &[1],
         pag: &pag,
     };
-    assert!(rt; has(&image, b"a", b"12"), "and not the stray pair's");
-    assert!(rt; has(&image, b"b", b"4"));
-    assert!(rt; has(&image, b"c", b""));
-    assert!(rt; lacks(&image, b"d"), "a stray pair");
-    assert!(rt; lacks(&image, b"e"));
-    assert_eq!(rt; refused(&image, b""), Some((1, 0, 0)));
+    assert_eq!(rt;
+        told(image.value_of(b"a")),
+        Ok(Some(b"12".as_slice())),
+        "and not the stray pair's"
+    );
+    assert_eq!(rt; told(image.value_of(b"b")), Ok(Some(b"4".as_slice())));
+    assert_eq!(rt; told(image.value_of(b"c")), Ok(Some(b"".as_slice())));
+    assert_eq!(rt; told(image.value_of(b"d")), Ok(None), "a stray pair");
+    assert_eq!(rt; told(image.value_of(b"e")), Ok(None));
+    assert_eq!(rt; told(image.value_of(b"")), Err((1, 0, 0)));
 }
 
 #[test]
@@ -103,26 +80,34 @@ fn next_pairs(rt: HostRuntime) {
         dir: &[1],
         pag: &pag,
     };
-    assert!(rt; shows(&image, 0, 0, b"b", b"4"));
-    assert!(rt; shows(&image, 0, 2, b"a", b"12"));
-    assert!(rt; shows(&image, 1, 1, b"c", b""));
+    assert_eq!(rt;
+        pair(&image, 0, 0),
+        Ok(Some((b"b".as_slice(), b"4".as_slice())))
+    );
+    assert_eq!(rt;
+        pair(&image, 0, 2),
+        Ok(Some((b"a".as_slice(), b"12".as_slice())))
+    );
+    assert_eq!(rt;
+        pair(&image, 1, 1),
+        Ok(Some((b"c".as_slice(), b"".as_slice())))
+    );
 }
 
-// A file that ends one byte before page 1 does.
 #[test]
 fn cut_pages(rt: HostRuntime) {
     let pag = pages();
     let image = Image {
         dir: &[1],
-        pag: cut(&pag, 2047),
+        pag: cut(&pag),
     };
-    assert_eq!(rt; refused(&image, b"a"), Some((9, 1, 5)));
-    assert_eq!(rt; refused(&image, b""), Some((1, 0, 0)));
-    assert!(rt; has(&image, b"b", b"4"));
+    assert_eq!(rt; told(image.value_of(b"a")), Err((9, 1, 5)));
+    assert_eq!(rt; told(image.value_of(b"")), Err((1, 0, 0)));
+    assert_eq!(rt; told(image.value_of(b"b")), Ok(Some(b"4".as_slice())));
     assert_eq!(rt; next(&image, 0, 0), Ok(Some((0, 1))));
     assert_eq!(rt; next(&image, 0, 2), Err((9, 1, 5)));
     let blank = Image { dir: &[], pag: &[] };
-    assert_eq!(rt; refused(&blank, b"a"), Some((9, 1, 4)));
+    assert_eq!(rt; told(blank.value_of(b"a")), Err((9, 1, 4)));
 }
 
 #[test]
@@ -135,8 +120,8 @@ fn bad_page(rt: HostRuntime) {
         dir: &[1],
         pag: &pag,
     };
-    assert_eq!(rt; refused(&image, b"a"), Some((6, 0, 5)));
-    assert!(rt; has(&image, b"b", b"4"));
+    assert_eq!(rt; told(image.value_of(b"a")), Err((6, 0, 5)));
+    assert_eq!(rt; told(image.value_of(b"b")), Ok(Some(b"4".as_slice())));
     assert_eq!(rt; next(&image, 0, 0), Ok(Some((0, 0))));
     assert_eq!(rt; next(&image, 0, 1), Err((6, 0, 5)));
     let whole = Image {

@@ -1,5 +1,5 @@
 // What a page holds, and its parts.
-use crate::building::{numbers, page_of, worked_page};
+use crate::building::{page_of, told, worked_page};
 use pages::{PairPage, Place, view};
 
 #[test]
@@ -49,44 +49,35 @@ fn bad_page_is_blank(rt: HostRuntime) {
     assert!(rt; page.bytes() == [0; 1024].as_slice());
 }
 
-// Whether these bytes are the part at the place.
-fn shows(page: &[u8], place: Place, part: &[u8]) -> bool {
-    match view(page, place) {
-        Ok(seen) => seen == part,
-        Err(_) => false,
-    }
-}
-
-// The numbers of the refusal, if there is one.
-fn refused(page: &[u8], place: Place) -> Option<(u8, u8, u32)> {
-    match view(page, place) {
-        Ok(_) => None,
-        Err(fault) => Some(numbers(&fault)),
-    }
-}
-
 #[test]
 fn views(rt: HostRuntime) {
     let page = worked_page();
-    assert!(rt; shows(&page, (1023, 1), b"a"));
-    assert!(rt; shows(&page, (1021, 2), b"12"));
-    assert!(rt; shows(&page, (1020, 1), b"b"));
-    assert!(rt; shows(&page, (1020, 0), b""));
-    assert!(rt; shows(&page, (1024, 0), b""), "nothing, at the end");
-    assert!(rt; shows(&page, (0, 1024), &page), "the whole page");
+    let cases: [(Place, &[u8]); 6] = [
+        ((1023, 1), b"a"),
+        ((1021, 2), b"12"),
+        ((1020, 1), b"b"),
+        ((1020, 0), b""),
+        // nothing, at the end
+        ((1024, 0), b""),
+        // the whole page
+        ((0, 1024), &page),
+    ];
+    for (place, part) in cases {
+        assert_eq!(rt; view(&page, place), Ok(part), "{place:?}");
+    }
 }
 
 #[test]
 fn views_refused(rt: HostRuntime) {
     let page = worked_page();
-    assert_eq!(rt; refused(&page, (1023, 1)), None);
-    assert_eq!(rt; refused(&page, (1024, 1)), Some((4, 0, 0)));
-    assert_eq!(rt; refused(&page, (1023, 2)), Some((4, 0, 0)));
-    assert_eq!(rt; refused(&page, (65535, 65535)), Some((4, 0, 0)));
-    assert_eq!(rt; refused(&[0; 1000], (0, 1)), Some((3, 0, 0)));
+    assert!(rt; view(&page, (1023, 1)).is_ok());
+    assert_eq!(rt; told(view(&page, (1024, 1))), Err((4, 0, 0)));
+    assert_eq!(rt; told(view(&page, (1023, 2))), Err((4, 0, 0)));
+    assert_eq!(rt; told(view(&page, (65535, 65535))), Err((4, 0, 0)));
+    assert_eq!(rt; told(view(&[0; 1000], (0, 1))), Err((3, 0, 0)));
     assert_eq!(rt;
-        refused(&[0; 1000], (1024, 1)),
-        Some((3, 0, 0)),
+        told(view(&[0; 1000], (1024, 1))),
+        Err((3, 0, 0)),
         "3 comes before 4"
     );
 }

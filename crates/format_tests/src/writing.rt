@@ -1,39 +1,21 @@
 // The edits of a page. Buffers start out full of sevens, so that what is written and what is left alone both show.
-use crate::building::{numbers, page_of, worked_page};
+use crate::building::{page_of, told, worked_page};
 use page_edits::{append, fits, keep, without};
 use pages::PairPage;
-
-// What a call answers, or the numbers of its refusal.
-type Answer<T> = Result<T, (u8, u8, u32)>;
-
-fn appended(page: &[u8], key: &[u8], value: &[u8], out: &mut [u8]) -> Answer<bool> {
-    match append(&PairPage::read(page), key, value, out) {
-        Ok(fits) => Ok(fits),
-        Err(fault) => Err(numbers(&fault)),
-    }
-}
-
-fn removed(page: &[u8], key: &[u8], out: &mut [u8]) -> Answer<bool> {
-    match without(&PairPage::read(page), key, out) {
-        Ok(there) => Ok(there),
-        Err(fault) => Err(numbers(&fault)),
-    }
-}
-
-fn kept(page: &[u8], bits: u32, low: u32, out: &mut [u8]) -> Answer<()> {
-    match keep(&PairPage::read(page), bits, low, out) {
-        Ok(()) => Ok(()),
-        Err(fault) => Err(numbers(&fault)),
-    }
-}
 
 #[test]
 fn appends(rt: HostRuntime) {
     let mut one = [7; 1024];
-    assert_eq!(rt; appended(&[0; 1024], b"a", b"12", &mut one), Ok(true));
+    assert_eq!(rt;
+        told(append(&PairPage::read(&[0; 1024]), b"a", b"12", &mut one)),
+        Ok(true)
+    );
     assert!(rt; one == page_of(&[2, 1023, 1021], b"12a"));
     let mut two = [7; 1024];
-    assert_eq!(rt; appended(&one, b"b", b"", &mut two), Ok(true));
+    assert_eq!(rt;
+        told(append(&PairPage::read(&one), b"b", b"", &mut two)),
+        Ok(true)
+    );
     assert!(rt; two == worked_page());
 }
 
@@ -42,10 +24,19 @@ fn appends(rt: HostRuntime) {
 fn room(rt: HostRuntime) {
     let page = page_of(&[2, 1016, 16], b"a name..");
     let mut out = [7; 1024];
-    assert_eq!(rt; appended(&page, b"b", b"123456", &mut out), Ok(false));
-    assert_eq!(rt; appended(&page, b"bcdefgh", b"", &mut out), Ok(false));
+    assert_eq!(rt;
+        told(append(&PairPage::read(&page), b"b", b"123456", &mut out)),
+        Ok(false)
+    );
+    assert_eq!(rt;
+        told(append(&PairPage::read(&page), b"bcdefgh", b"", &mut out)),
+        Ok(false)
+    );
     assert!(rt; out == [7; 1024], "the buffer is left alone");
-    assert_eq!(rt; appended(&page, b"b", b"12345", &mut out), Ok(true));
+    assert_eq!(rt;
+        told(append(&PairPage::read(&page), b"b", b"12345", &mut out)),
+        Ok(true)
+    );
     let page = PairPage::read(&out);
     assert_eq!(rt; page.pair(0), Some(((1016, 8), (16, 1000))));
     assert_eq!(rt; page.pair(1), Some(((15, 1), (10, 5))));
@@ -69,22 +60,22 @@ fn no_append(rt: HostRuntime) {
     let page = worked_page();
     let mut out = [7; 1024];
     assert_eq!(rt;
-        appended(&page, b"", b"x", &mut out),
+        told(append(&PairPage::read(&page), b"", b"x", &mut out)),
         Ok(false),
         "an empty key"
     );
     assert_eq!(rt;
-        appended(&page, b"b", b"x", &mut out),
+        told(append(&PairPage::read(&page), b"b", b"x", &mut out)),
         Ok(false),
         "a key that is there"
     );
     assert_eq!(rt;
-        appended(&page, &page, b"", &mut out),
+        told(append(&PairPage::read(&page), &page, b"", &mut out)),
         Ok(false),
         "a long key"
     );
     assert_eq!(rt;
-        appended(&page, b"c", &page, &mut out),
+        told(append(&PairPage::read(&page), b"c", &page, &mut out)),
         Ok(false),
         "a long value"
     );
@@ -95,9 +86,18 @@ fn no_append(rt: HostRuntime) {
 fn short_buffers(rt: HostRuntime) {
     let page = worked_page();
     let mut out = [7; 1023];
-    assert_eq!(rt; appended(&page, b"c", b"", &mut out), Err((3, 0, 0)));
-    assert_eq!(rt; removed(&page, b"a", &mut out), Err((3, 0, 0)));
-    assert_eq!(rt; kept(&page, 1, 0, &mut out), Err((3, 0, 0)));
+    assert_eq!(rt;
+        told(append(&PairPage::read(&page), b"c", b"", &mut out)),
+        Err((3, 0, 0))
+    );
+    assert_eq!(rt;
+        told(without(&PairPage::read(&page), b"a", &mut out)),
+        Err((3, 0, 0))
+    );
+    assert_eq!(rt;
+        told(keep(&PairPage::read(&page), 1, 0, &mut out)),
+        Err((3, 0, 0))
+    );
     assert!(rt; out == [7; 1023], "the buffer is left alone");
 }
 
@@ -105,11 +105,20 @@ fn short_buffers(rt: HostRuntime) {
 fn removals(rt: HostRuntime) {
     let page = page_of(&[4, 1023, 1021, 1020, 1020, 0xABCD], b"b12a");
     let mut out = [7; 1024];
-    assert_eq!(rt; removed(&page, b"a", &mut out), Ok(true));
+    assert_eq!(rt;
+        told(without(&PairPage::read(&page), b"a", &mut out)),
+        Ok(true)
+    );
     assert!(rt; out == page_of(&[2, 1023, 1023], b"b"), "b is left");
-    assert_eq!(rt; removed(&page, b"b", &mut out), Ok(true));
+    assert_eq!(rt;
+        told(without(&PairPage::read(&page), b"b", &mut out)),
+        Ok(true)
+    );
     assert!(rt; out == page_of(&[2, 1023, 1021], b"12a"), "a is left");
-    assert_eq!(rt; removed(&page, b"c", &mut out), Ok(false));
+    assert_eq!(rt;
+        told(without(&PairPage::read(&page), b"c", &mut out)),
+        Ok(false)
+    );
     assert!(rt;
         out == worked_page(),
         "all is left, with zeros in the free middle"
@@ -124,12 +133,12 @@ fn halves(rt: HostRuntime) {
         b"4d33cb1a",
     );
     let mut out = [7; 1024];
-    assert_eq!(rt; kept(&page, 1, 0, &mut out), Ok(()));
+    assert_eq!(rt; told(keep(&PairPage::read(&page), 1, 0, &mut out)), Ok(()));
     assert!(rt;
         out == page_of(&[4, 1023, 1023, 1022, 1021], b"4db"),
         "even"
     );
-    assert_eq!(rt; kept(&page, 1, 1, &mut out), Ok(()));
+    assert_eq!(rt; told(keep(&PairPage::read(&page), 1, 1, &mut out)), Ok(()));
     assert!(rt;
         out == page_of(&[4, 1023, 1022, 1021, 1019], b"33c1a"),
         "odd"
@@ -140,10 +149,13 @@ fn halves(rt: HostRuntime) {
 fn keeps(rt: HostRuntime) {
     let page = worked_page();
     let mut out = [7; 1024];
-    assert_eq!(rt; kept(&page, 0, 0, &mut out), Ok(()));
+    assert_eq!(rt; told(keep(&PairPage::read(&page), 0, 0, &mut out)), Ok(()));
     assert!(rt; out == page, "all");
-    assert_eq!(rt; kept(&page, 1, 2, &mut out), Ok(()));
+    assert_eq!(rt; told(keep(&PairPage::read(&page), 1, 2, &mut out)), Ok(()));
     assert!(rt; out == [0; 1024], "none");
-    assert_eq!(rt; kept(&page, 32, 97, &mut out), Ok(()));
+    assert_eq!(rt;
+        told(keep(&PairPage::read(&page), 32, 97, &mut out)),
+        Ok(())
+    );
     assert!(rt; out == page_of(&[2, 1023, 1021], b"12a"), "only a");
 }

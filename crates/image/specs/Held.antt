@@ -5,8 +5,9 @@ use Rattle.directory.specs.Tree.{Reachable, bits_of, low, page_of}
 use Rattle.faults.specs.Numbers.{numbers}
 use Rattle.faults.specs.declared.Fault.{Fault}
 use Rattle.keys.specs.Hash.{hash}
+use Rattle.pages.specs.Blank.{bytes_of}
 use Rattle.pages.specs.Page.{Good, key_of, look, pairs, pairs_of, val_of}
-use Rattle.pages.specs.Read.{Place, key_place, val_place}
+use Rattle.pages.specs.declared.page.PairPage.{PairPage}
 use Rattle.image.specs.declared.Shown.{Shown}
 use Rattle.directory.specs.declared.Leaf.{Leaf}
 
@@ -30,10 +31,10 @@ PageRefused pag p f =
 abbrev pub Readable : List ℕ → ℕ → Type 0
 Readable pag p = Has pag p × Good (page_at pag p)
 
--- the bytes of a page, or why they cannot be had
-abbrev pub PageIs : List ℕ → ℕ → Result (Bor (List ℕ)) Fault → Type 0
-PageIs pag p (Ok bytes) = Has pag p × (bytes.now ≡ page_at pag p)
-PageIs pag p (Err f) = (Has pag p → ⊥) × (numbers f ≡ (9, 1, 4 + p))
+-- a page that was read, with its bytes, or why it cannot be
+abbrev pub PageRead : List ℕ → ℕ → Result PairPage Fault → Type 0
+PageRead pag p (Ok page) = Readable pag p × (bytes_of page.good ≡ page_at pag p)
+PageRead pag p (Err f) = PageRefused pag p f
 
 -- the value of a key: that of its pair on the page where its lookup ends
 abbrev pub ValueIs : List ℕ → List ℕ → List ℕ → Result (Option (Bor (List ℕ))) Fault → Type 0
@@ -56,10 +57,10 @@ abbrev pub Belongs : List ℕ → Leaf → ℕ → Type 0
 Belongs page leaf i = low (hash (key_of page i)) leaf.depth ≡ leaf.page
 
 -- the first pair from number n on whose hash belongs to the leaf
-abbrev pub FirstHome : List ℕ → Leaf → ℕ → Option (ℕ × Place × Place) → Type 0
+abbrev pub FirstHome : List ℕ → Leaf → ℕ → Option (ℕ × Bor (List ℕ) × Bor (List ℕ)) → Type 0
 FirstHome page leaf n None = (k : ℕ) → n ≤ k → k < pairs page → Belongs page leaf k → ⊥
 FirstHome page leaf n (Some (i, k, v)) =
-    (n ≤ i) × (i < pairs page) × Belongs page leaf i × (k ≡ key_place page i) × (v ≡ val_place page i) × ((j : ℕ) → n ≤ j → j < i → Belongs page leaf j → ⊥)
+    (n ≤ i) × (i < pairs page) × Belongs page leaf i × (k.now ≡ key_of page i) × (v.now ≡ val_of page i) × ((j : ℕ) → n ≤ j → j < i → Belongs page leaf j → ⊥)
 
 -- a page shows nothing from number n on: no lookup ends there, or it can be read and no pair from n on is at home
 abbrev pub Silent : List ℕ → List ℕ → ℕ → ℕ → Type 0

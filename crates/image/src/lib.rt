@@ -1,20 +1,20 @@
 // The two files of a database, read as they are: which pairs they hold.
 #![tactic(auto)]
 
-ghost use Rattle.std.specs.Prelude.{◌≡◌, ◌+◌, ◌<◌, ◌≤◌, length, take, drop};
-ghost use Rattle.image.specs.Held.{FirstHome, Next, NextReachable, OnPage, PageIs, ValueIs};
+ghost use Rattle.std.specs.Prelude.{◌≡◌, ◌<◌, Decides};
+ghost use Rattle.pages.specs.Blank.{bytes_of};
+ghost use Rattle.pages.specs.Page.{pairs};
+ghost use Rattle.image.specs.Held.{Belongs, FirstHome, Next, NextReachable, OnPage, PageRead, ValueIs, start};
 
 use directory::{Leaf, is_reachable, look_up};
 use faults::{Fault, Layer, Refusal};
 use keys::hash_of;
-use pages::{PairPage, Place};
+use pages::{PAGE, PairPage};
 
-// How many bytes a block has, how many blocks the directory takes, and how many pages a database may have.
-const BLOCK: usize = 1024;
+// How many blocks the directory takes, and how many pages a database may have.
+pub const DIRECTORY_BLOCKS: u32 = 4;
 
-const DIRECTORY_BLOCKS: u32 = 4;
-
-const PAGES: u32 = 32_768;
+pub const PAGES: u32 = 32_768;
 
 // The bytes of a directory file and of a page file, whatever they are. A short directory counts as filled up with zeros.
 #[derive(Clone, Copy)]
@@ -41,26 +41,18 @@ impl<'a> Image<'a> {
             return Err(Fault::database(Refusal::EmptyKey, 0));
         }
         let home = look_up(self.dir, hash_of(key)).page;
-        let page = PairPage::read(page_bytes(self.pag, home)?);
-        if !page.is_good() {
-            return Err(Fault::database(Refusal::BadPage, DIRECTORY_BLOCKS + home));
-        }
-        match page.find(key) {
-            Some(place) => Ok(Some(part(page.bytes(), place))),
-            None => Ok(None),
-        }
+        Ok(self.page(home)?.value_of(key))
     }
 
     // The first pair at or after a page and a pair's number there.
     pub fn next_pair(&self, page: u32, number: usize) -> Result<Option<Shown<'a>>, Fault>
         ensures { Next self.now.dir.now self.now.pag.now page number result }
     {
-        let mut first = number;
+        // A loop: a search by `find` would not pass a refusal on.
         for p in page..PAGES {
-            if let Some(shown) = self.next_on(p, first)? {
+            if let Some(shown) = self.next_on(p, start(page, number, p))? {
                 return Ok(Some(shown));
             }
-            first = 0;
         }
         Ok(None)
     }
@@ -69,12 +61,7 @@ impl<'a> Image<'a> {
     pub fn reachable_from(&self, page: u32) -> Option<u32>
         ensures { NextReachable self.now.dir.now page result }
     {
-        for p in page..PAGES {
-            if is_reachable(self.dir, p) {
-                return Some(p);
-            }
-        }
-        None
+        (page..PAGES).find(|p| is_reachable(self.dir, *p))
     }
 
     // The first pair at home on a page from a number on.
@@ -86,65 +73,58 @@ impl<'a> Image<'a> {
         if leaf.page != p {
             return Ok(None);
         }
-        let page = PairPage::read(page_bytes(self.pag, p)?);
-        if !page.is_good() {
-            return Err(Fault::database(Refusal::BadPage, DIRECTORY_BLOCKS + p));
-        }
-        match first_home(&page, &leaf, first) {
-            Some((number, key, value)) => Ok(Some(Shown {
-                key: part(page.bytes(), key),
-                value: part(page.bytes(), value),
-                page: p,
-                number,
-            })),
-            None => Ok(None),
-        }
+        let page = self.page(p)?;
+        let Some((number, key, value)) = first_home(&page, &leaf, first) else {
+            return Ok(None);
+        };
+        Ok(Some(Shown {
+            key,
+            value,
+            page: p,
+            number,
+        }))
+    }
+
+    // A page; refused 9 where the file ends before it does, and 6 where it is not good.
+    fn page(&self, number: u32) -> Result<PairPage<'a>, Fault>
+        requires { number < 32768 }
+        ensures { PageRead self.now.pag.now number result }
+    {
+        let block = DIRECTORY_BLOCKS + number;
+        let from = PAGE * number as usize;
+        let Some(bytes) = self.pag.get(from..from + PAGE) else {
+            return Err(Layer::Bottom.fault(Refusal::PastLimit, block));
+        };
+        PairPage::check(bytes).ok_or(Fault::database(Refusal::BadPage, block))
     }
 }
 
-// The bytes of a page; refused 9 where the file ends before it does.
-fn page_bytes(pag: &[u8], page: u32) -> Result<&[u8], Fault>
-    requires { page < 32768 }
-    ensures { PageIs pag.now page result }
+// The number from which on page p counts, where the search begins at a number on a page.
+fn start(page: u32, number: usize, p: u32) -> usize
+    ensures { result ≡ start page number p }
 {
-    let from = BLOCK * page as usize;
-    if from + BLOCK > pag.len() {
-        return Err(Fault {
-            refusal: Refusal::PastLimit,
-            layer: Layer::Bottom,
-            block: DIRECTORY_BLOCKS + page,
-        });
-    }
-    Ok(slice(pag, from, BLOCK))
+    if p == page { number } else { 0 }
 }
 
-// The first pair from a number on whose hash belongs to the leaf: its number, and where its key and value lie.
-fn first_home(page: &PairPage, leaf: &Leaf, first: usize) -> Option<(usize, Place, Place)>
-    ensures { FirstHome page.now.bytes.now leaf.now first result }
+// The first pair from a number on whose hash belongs to the leaf: its number, its key and its value.
+fn first_home<'a>(
+    page: &PairPage<'a>,
+    leaf: &Leaf,
+    first: usize,
+) -> Option<(usize, &'a [u8], &'a [u8])>
+    ensures { FirstHome (bytes_of page.now.good) leaf.now first result }
 {
-    for i in first..page.count() {
-        if let Some((key, value)) = page.pair(i) {
-            if leaf.is_home(hash_of(part(page.bytes(), key))) {
-                return Some((i, key, value));
-            }
-        }
-    }
-    None
+    let number = (first..page.count()).find(|i| belongs(page, leaf, *i))?;
+    let (key, value) = page.parts(number)?;
+    Some((number, key, value))
 }
 
-// The part at a place that lies inside.
-fn part(bytes: &[u8], place: Place) -> &[u8]
-    requires { place.0 + place.1 ≤ length bytes.now }
-    ensures { result.now ≡ take place.1 (drop place.0 bytes.now) }
+// Whether the hash of pair i belongs to the leaf, and there is such a pair.
+fn belongs(page: &PairPage, leaf: &Leaf, i: usize) -> bool
+    ensures { Decides result ((i < pairs (bytes_of page.now.good)) × Belongs (bytes_of page.now.good) leaf.now i) }
 {
-    let (offset, len) = place;
-    slice(bytes, offset as usize, len as usize)
-}
-
-// A number of bytes from a place on.
-fn slice(bytes: &[u8], from: usize, len: usize) -> &[u8]
-    requires { from + len ≤ length bytes.now }
-    ensures { result.now ≡ take len (drop from bytes.now) }
-{
-    &bytes[from..from + len]
+    let Some((key, _)) = page.parts(i) else {
+        return false;
+    };
+    leaf.is_home(hash_of(key))
 }

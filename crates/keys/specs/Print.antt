@@ -7,6 +7,7 @@ w8 s i =
     slice_index s i + slice_index s (i + 1) * 256 + slice_index s (i + 2) * 65536 + slice_index s (i + 3) * 16777216 + slice_index s (i + 4) * 4294967296
     + slice_index s (i + 5) * 1099511627776 + slice_index s (i + 6) * 281474976710656 + slice_index s (i + 7) * 72057594037927936
 
+-- one more word into the running number
 abbrev pub blend : ℕ → ℕ → ℕ
 blend h w = (h * 11400714819323198485 % 2 ^ 64 + w) % 2 ^ 64
 

@@ -1,7 +1,11 @@
 -- One more byte of a text.
-use Rattle.std.proofs.Common.{◌≡◌, ℕ, ◌+◌, ◌<◌, Bool, false, cond, List, [], ◌∷◌, ◌++◌, length, get_or, take, sym, refl, ap, ◌∙◌, append_assoc, append-nil}
-use Rattle.listing.specs.Text.{each, plain, shown_byte, two_digits}
+use Rattle.std.proofs.Common.{◌≡◌, ℕ, zero, suc, ◌+◌, ◌/◌, ◌%◌, ◌<◌, ◌≤◌, ◌&&◌, Bool, true, false, eqb, Option, Some, slice_index, ap₂, subst, ⊎_elim, arith, cond, List, [], ◌∷◌, ◌++◌, length, get_or, take, sym, refl, ap, ◌∙◌, append_assoc, append-nil}
+use Rattle.std.proofs.lemmas.Bool.{and_parts, cases_lt, eqb-true}
 use Rattle.std.proofs.lemmas.List.{take_more}
+use Rattle.std.proofs.lemmas.Fmt.{hex_byte}
+use Rattle.std.specs.Fmt.{AppendsText, digits, format_spec, padded_integral, ◌++?◌}
+use Rattle.hex.specs.Hex.{encode_with, lower_digits}
+use Rattle.listing.specs.Text.{digit, each, hex_bytes, plain, shown_byte, two_digits}
 
 each_append : (f : ℕ → List ℕ) (xs ys : List ℕ) → each f (xs ++ ys) ≡ each f xs ++ each f ys
 each_append f [] ys = refl
@@ -22,9 +26,35 @@ turn f bs i pre old new h e inv =
     ∙ append_assoc pre (each f (take i bs)) (f (get_or bs i 0))
     ∙ ap (λ (t : List ℕ). pre ++ t) (sym (each_more f bs i h))
 
+-- a test of each number below n
+abbrev all_below : (ℕ → Bool) → ℕ → Bool
+all_below test zero = true
+all_below test (suc n) = test n && all_below test n
+
+passes : (test : ℕ → Bool) (n k : ℕ) → all_below test n ≡ true → k < n → test k ≡ true
+passes test zero k all l = absurd (omega arith)
+passes test (suc n) k all l =
+    let parts = and_parts (test n) (all_below test n) all in
+    ⊎_elim (λ (m : k < n). passes test n k parts.1 m) (λ (m : n ≤ k). let e : k ≡ n = omega arith in ap test e ∙ parts.0) (cases_lt k n)
+
+-- the digits of the table that the library writes
+digit_at : (n : ℕ) → n < 16 → slice_index lower_digits n ≡ digit n
+digit_at n l = eqb-true _ _ (passes (λ (n : ℕ). eqb (slice_index lower_digits n) (digit n)) 16 n refl l)
+
+pub hex_encoded : (bs : List ℕ) → ((i : ℕ) → get_or bs i 0 < 256) → encode_with lower_digits bs ≡ hex_bytes bs
+unfolding encode_with
+hex_encoded [] small = refl
+hex_encoded (b ∷ bs) small =
+    let l : b < 256 = small 0 in
+    ap₂ ◌∷◌ (digit_at (b / 16) (omega arith)) (ap₂ ◌∷◌ (digit_at (b % 16) (omega arith)) (hex_encoded bs (λ i. small (suc i))))
+
+-- what `{:02x}` writes for a byte
+abbrev pub two_wide : ℕ → List ℕ
+two_wide b = padded_integral (format_spec 32 0 4 2 18446744073709551615) false [] (digits 16 false b)
+
 -- a byte that does not stand as itself
-pub escaped : (old mid new : List ℕ) (b : ℕ) → false ≡ plain b → mid ≡ old ++ (92 ∷ 120 ∷ []) → new ≡ mid ++ two_digits b → new ≡ old ++ shown_byte b
-escaped old mid new b p m n =
-    n ∙ ap (λ (t : List ℕ). t ++ two_digits b) m
-    ∙ append_assoc old (92 ∷ 120 ∷ []) (two_digits b)
-    ∙ ap (λ (q : Bool). old ++ cond q (b ∷ []) (92 ∷ 120 ∷ two_digits b)) p
+pub escaped : (old new : List ℕ) (b : ℕ) (shown : Option (List ℕ)) → b < 256 → false ≡ plain b → shown ≡ Some (two_wide b) → AppendsText old new (Some (92 ∷ 120 ∷ []) ++? shown) → new ≡ old ++ shown_byte b
+escaped old new b shown l p e w =
+    let h : new ≡ old ++ (92 ∷ 120 ∷ two_digits b)
+    = subst (λ (o : Option (List ℕ)). AppendsText old new (Some (92 ∷ 120 ∷ []) ++? o)) (e ∙ ap Some (hex_byte false b l)) w in
+    h ∙ ap (λ (q : Bool). old ++ cond q (b ∷ []) (92 ∷ 120 ∷ two_digits b)) p

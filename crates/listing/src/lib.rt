@@ -3,46 +3,39 @@
 
 pub mod text;
 
+use directory::is_reachable;
 use faults::Fault;
-use image::{Image, Shown};
+use image::{DIRECTORY_BLOCKS, Image, PAGES, Shown};
+use pages::PAGE;
 use std::{fs, io};
 use text::{first_line, hex, quoted};
 
-// How many bytes a directory has, and a page.
-const DIRECTORY: usize = 4096;
-
-const PAGE: usize = 1024;
+// How many bytes a directory has.
+const DIRECTORY: usize = PAGE * DIRECTORY_BLOCKS as usize;
 
 // Tells of two files and of the names, one on a line, whatever is in them.
 pub fn list(rt: &HostRuntime, dir_path: &str, pag_path: &str, names: &[u8]) -> anyhow::Result<()> {
     let dir = fs::read(rt, dir_path).ok();
     let pag = fs::read(rt, pag_path).ok();
-    tell_directory(rt, dir_path, &dir)?;
-    tell_pages(rt, pag_path, &pag)?;
+    tell_directory(rt, dir_path, dir.as_deref())?;
+    tell_pages(rt, pag_path, pag.as_deref())?;
+    // A file that cannot be read counts as empty.
     let image = Image {
-        dir: bytes_of(&dir),
-        pag: bytes_of(&pag),
+        dir: dir.as_deref().unwrap_or(&[]),
+        pag: pag.as_deref().unwrap_or(&[]),
     };
     tell_missing(rt, pag_path, &image)?;
     let pairs = list_pairs(rt, &image)?;
     let tally = look_names_up(rt, &image, names)?;
     tell_end(rt, &pairs)?;
-    let found = tally.found;
-    let missing = tally.missing;
-    let refused = tally.refused;
-    println!(rt; "names: {found} found, {missing} not there, {refused} refused")?;
+    println!(rt;
+        "names: {} found, {} not there, {} refused",
+        tally.found, tally.missing, tally.refused
+    )?;
     Ok(())
 }
 
-// A file that cannot be read counts as empty.
-fn bytes_of(file: &Option<Vec<u8>>) -> &[u8] {
-    match file {
-        Some(bytes) => bytes.as_slice(),
-        None => &[],
-    }
-}
-
-fn tell_directory(rt: &HostRuntime, path: &str, file: &Option<Vec<u8>>) -> io::Result<()> {
+fn tell_directory(rt: &HostRuntime, path: &str, file: Option<&[u8]>) -> io::Result<()> {
     let Some(bytes) = file else {
         return println!(rt; "{path}: cannot be read: taken as empty");
     };
@@ -60,7 +53,7 @@ fn tell_directory(rt: &HostRuntime, path: &str, file: &Option<Vec<u8>>) -> io::R
     }
 }
 
-fn tell_pages(rt: &HostRuntime, path: &str, file: &Option<Vec<u8>>) -> io::Result<()> {
+fn tell_pages(rt: &HostRuntime, path: &str, file: Option<&[u8]>) -> io::Result<()> {
     let Some(bytes) = file else {
         return println!(rt; "{path}: cannot be read: taken as empty");
     };
@@ -88,13 +81,9 @@ fn tell_missing(rt: &HostRuntime, path: &str, image: &Image) -> io::Result<()> {
 
 // How many pages from a number on are reachable.
 fn count_reachable(image: &Image, first: u32) -> usize {
-    let mut many = 0usize;
-    let mut from = first;
-    while let Some(page) = image.reachable_from(from) {
-        many = many.saturating_add(1);
-        from = page + 1;
-    }
-    many
+    (first..PAGES)
+        .filter(|page| is_reachable(image.dir, *page))
+        .count()
 }
 
 // How the listing of the pairs went: how many were shown, and what stopped it, if anything did.
@@ -106,26 +95,24 @@ struct Pairs {
 
 // Shows the pairs one after another, to the end or to the first refusal.
 fn list_pairs(rt: &HostRuntime, image: &Image) -> anyhow::Result<Pairs> {
+    // A loop: each call begins where the last pair stood, and an iterator of the pairs would have to say again, in clauses of
+    // its own, what `next_pair` promises.
     let mut shown = 0usize;
     let mut page = 0u32;
     let mut number = 0usize;
-    loop {
-        let next = match image.next_pair(page, number) {
-            Ok(next) => next,
-            Err(fault) => {
-                let stopped = Some(fault);
-                return Ok(Pairs { shown, stopped });
+    let stopped = loop {
+        match image.next_pair(page, number) {
+            Ok(Some(pair)) => {
+                show_pair(rt, &pair)?;
+                shown = shown.saturating_add(1);
+                page = pair.page;
+                number = pair.number + 1;
             }
-        };
-        let Some(pair) = next else {
-            let stopped = None;
-            return Ok(Pairs { shown, stopped });
-        };
-        show_pair(rt, &pair)?;
-        shown = shown.saturating_add(1);
-        page = pair.page;
-        number = pair.number + 1;
-    }
+            Ok(None) => break None,
+            Err(fault) => break Some(fault),
+        }
+    };
+    Ok(Pairs { shown, stopped })
 }
 
 fn show_pair(rt: &HostRuntime, pair: &Shown) -> anyhow::Result<()> {
@@ -143,14 +130,14 @@ fn tell_end(rt: &HostRuntime, pairs: &Pairs) -> io::Result<()> {
         None => println!(rt; "pairs: {shown} shown, listed to the end"),
         Some(fault) => {
             // the page's block comes after the four of the directory
-            let page = fault.block.saturating_sub(4);
+            let page = fault.block.saturating_sub(DIRECTORY_BLOCKS);
             println!(rt; "pairs: {shown} shown, stopped at page {page}: {fault}")
         }
     }
 }
 
 // How the looking up of the names went.
-#[derive(Drop)]
+#[derive(Default, Drop)]
 struct Tally {
     found: usize,
     missing: usize,
@@ -158,11 +145,8 @@ struct Tally {
 }
 
 fn look_names_up(rt: &HostRuntime, image: &Image, names: &[u8]) -> anyhow::Result<Tally> {
-    let mut tally = Tally {
-        found: 0,
-        missing: 0,
-        refused: 0,
-    };
+    let mut tally = Tally::default();
+    // By `first_line`, which says what a line is: `split` would give one line more after a last line feed.
     let mut rest = names;
     while !rest.is_empty() {
         let (name, after) = first_line(rest);
@@ -178,7 +162,7 @@ fn look_up(rt: &HostRuntime, image: &Image, name: &[u8], tally: &mut Tally) -> a
     match image.value_of(name) {
         Ok(Some(value)) => {
             tally.found = tally.found.saturating_add(1);
-            tell_value(rt, &shown, value)?;
+            tell_value(rt, shown.as_str(), value)?;
         }
         Ok(None) => {
             tally.missing = tally.missing.saturating_add(1);
@@ -192,7 +176,7 @@ fn look_up(rt: &HostRuntime, image: &Image, name: &[u8], tally: &mut Tally) -> a
     Ok(())
 }
 
-fn tell_value(rt: &HostRuntime, name: &String, value: &[u8]) -> anyhow::Result<()> {
+fn tell_value(rt: &HostRuntime, name: &str, value: &[u8]) -> anyhow::Result<()> {
     if value.is_empty() {
         println!(rt; "name {name}: (empty)")?;
         return Ok(());

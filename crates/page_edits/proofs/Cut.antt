@@ -1,6 +1,7 @@
 use Rattle.std.proofs.Common.{◌≡◌, ℕ, ◌+◌, ◌-◌, ◌*◌, ◌/◌, ◌%◌, ◌<◌, ◌≤◌, List, [], ◌∷◌, ◌++◌, length, get_or, take, drop, replicate, sym, refl, ap, ◌∙◌, subst, append_assoc, append-nil, arith, length-append}
 use Rattle.std.specs.List.{between}
-use Rattle.std.proofs.lemmas.List.{take_at, drop_at, get_or_at, get_or-append-add, take-append-drop, length-take-le, length-drop}
+use borrow.Rule.Slice.PartMut.{put_mid}
+use Rattle.std.proofs.lemmas.List.{take_at, drop_at, drop-drop, get_or_at, get_or-append-add, take-append-drop, length-take, length-take-le, length-drop}
 use Rattle.pages.specs.Page.{word, Pair}
 use Rattle.page_edits.specs.Bytes.{put}
 use Rattle.page_edits.specs.Write.{le2, size, offs, body, len_of, free, shape}
@@ -61,3 +62,10 @@ pub take_put : (s b : List ℕ) (i : ℕ) → i ≤ length s → take (i + lengt
 take_put s b i h =
     let l : length (take i s ++ b) ≡ i + length b = length-append (take i s) b ∙ ap (λ (n : ℕ). n + length b) (length-take-le i s h) in
     ap (take (i + length b)) (sym (append_assoc (take i s) b (drop (i + length b) s))) ∙ take_at (take i s ++ b) (drop (i + length b) s) (i + length b) l
+
+pub length_put : (s b : List ℕ) (i : ℕ) → i + length b ≤ length s → length (put s i b) ≡ length s
+length_put s b i h = simp (length-append, length-take, length-drop) (omega arith)
+
+-- a write to a part of a slice
+pub put_part : (s ys bs : List ℕ) (i k : ℕ) → ys ≡ bs → length bs ≡ k → put_mid i k s ys ≡ put s i bs
+put_part s ys bs i k e l = rw (e, ← l) (ap (λ (t : List ℕ). take i s ++ (bs ++ t)) (drop-drop (length bs) i s))

@@ -1,28 +1,22 @@
 -- When one more pair fits, and the page without a key.
+use Rattle.pages.specs.Blank.{bytes_of}
 use Rattle.pages.specs.declared.page.PairPage.{PairPage}
-use Rattle.pages.proofs.Held.{end_at, good_in}
-use Rattle.std.proofs.Common.{◌≡◌, ℕ, zero, suc, ◌+◌, ◌-◌, ◌*◌, ◌<◌, ◌≤◌, min, true, false, ◌⊎◌, List, [], ◌∷◌, ◌++◌, length, replicate, is_some, None, Decides, sym, refl, ap, ◌∙◌, subst, inl, inr, ⊎_elim, append_assoc, arith, length-append}
-use lib.ListN.{length-replicate}
+use Rattle.pages.proofs.Held.{good_in}
+use Rattle.std.proofs.Common.{◌≡◌, ℕ, zero, suc, ◌+◌, ◌*◌, ◌<◌, ◌≤◌, Bool, true, false, not, Option, Some, List, [], ◌∷◌, length, is_some, None, Decides, sym, refl, ap, ◌∙◌, subst, ⊎_elim, arith, length-append}
 use Rattle.keys.specs.Same.{same}
 use Rattle.pages.proofs.Looks.{length_pairs, none, page_none, page_some, pair_at}
 use Rattle.pages.proofs.Pages.{not_both, not_true}
 use Rattle.keys.proofs.Sames.{laws}
 use Rattle.pages.specs.Page.{Bytes, Good, Pair, count, key_end, key_of, look, pairs, pairs_of}
 use Rattle.pages.specs.Read.{Which}
-use Rattle.page_edits.proofs.Cut.{length_body, length_offs, put_seg, size_append}
-use Rattle.page_edits.proofs.One.{fits_good, low as lowest, parts_of}
-use Rattle.page_edits.specs.Bytes.{put}
+use Rattle.page_edits.proofs.Cut.{size_append}
+use Rattle.page_edits.proofs.One.{fits_good, low as lowest}
 use Rattle.page_edits.specs.Edit.{dropped, with_pair}
-use Rattle.page_edits.specs.Laws.{middle}
-use Rattle.page_edits.specs.Write.{Fits, body, free, key_in, le2, offs, size, written}
+use Rattle.page_edits.specs.Write.{Fits, key_in, size}
 use Rattle.std.proofs.ByRecursion.{All-get_or, All-push}
 use Rattle.std.proofs.lemmas.List.{get_or_append_left, get_or_at}
-use Rattle.std.proofs.lemmas.Bool.{cases_eq, cases_lt}
+use Rattle.std.proofs.lemmas.Bool.{cases_eq, cases_order}
 use Rattle.std.specs.List.{remove}
-
--- two numbers that differ, one way or the other
-lt_or_gt : (i k : ℕ) → (i ≡ k → ⊥) → (i < k) ⊎ (k < i)
-lt_or_gt i k ne = ⊎_elim (λ (h : i < k). inl h) (λ (h : k ≤ i). inr (omega arith)) (cases_lt i k)
 
 -- a test that fails, of what cannot be
 pub no_from : {P : Type 0} → (P → ⊥) → Decides false P
@@ -72,6 +66,11 @@ module _ (ps : List Pair) (key value : List ℕ) where
   }
 
 module _ (page : List ℕ) (bytes : Bytes page) (g : Good page) where
+  -- there is room for the pair
+  pub page_room : (key value : List ℕ) → Fits (with_pair (pairs_of page) key value) → 2 * count page + 6 + (length key + length value) ≤ key_end page (pairs page)
+  page_room key value f =
+      omega (arith, f.room, g.even, lowest page bytes g, length_pairs page, length-append (pairs_of page) ((key, value) ∷ []), size_append (pairs_of page) ((key, value) ∷ []))
+
   key_at : (i : ℕ) → i < pairs page → key_in (pairs_of page) i ≡ key_of page i
   key_at i h = ap (λ (p : Pair). p.0) (pair_at page i none h)
 
@@ -86,38 +85,14 @@ module _ (page : List ℕ) (bytes : Bytes page) (g : Good page) where
       let a = key_at k h in
       let n = fits_new (pairs_of page) key value f k (omega (arith, length_pairs page)) in cc
 
-  -- with its free middle cleared a good page is the written page of its pairs
-  pub clear_middle : put page (4 * pairs page + 2) (replicate (key_end page (pairs page) - (4 * pairs page + 2)) 0) ≡ written (pairs_of page)
-  unfolding written
-  clear_middle =
-      let ps = pairs_of page in
-      let mid = middle page in
-      let front = le2 (2 * length ps) ++ offs 1024 ps in
-      let n : free ps ≡ key_end page (pairs page) - (4 * pairs page + 2) = omega (arith, lowest page bytes g, length_pairs page) in
-      let s : page ≡ front ++ (mid ++ body ps) = (parts_of page bytes g).1 ∙ sym (append_assoc (le2 (2 * length ps)) (offs 1024 ps) (mid ++ body ps)) in
-      let lf : length front ≡ 4 * pairs page + 2 = length-append (le2 (2 * length ps)) (offs 1024 ps) ∙ omega (arith, length_offs 1024 ps, length_pairs page) in
-      let l : length page ≡ length front + (length mid + length (body ps)) = ap length s ∙ simp length-append in
-      let z = replicate {A = ℕ} (key_end page (pairs page) - (4 * pairs page + 2)) 0 in
-      let lm : length mid ≡ length z = omega (arith, g.whole, length_body ps, lowest page bytes g, g.room, g.even, length-replicate {A = ℕ} (key_end page (pairs page) - (4 * pairs page + 2)) 0) in
-      ap (λ (t : List ℕ). put t (4 * pairs page + 2) z) s
-      ∙ put_seg front mid (body ps) z (4 * pairs page + 2) lf lm
-      ∙ append_assoc (le2 (2 * length ps)) (offs 1024 ps) (z ++ body ps)
-      ∙ ap (λ (k : ℕ). le2 (2 * length ps) ++ (offs 1024 ps ++ (replicate k 0 ++ body ps))) (sym n)
-
--- the same, as the code has its numbers
-module _ (p : PairPage) (m low : ℕ) (me : m ≡ pairs p.bytes.now) (le : low ≡ key_end p.bytes.now (min m (pairs p.bytes.now))) where
-  low_is : low ≡ key_end p.bytes.now (pairs p.bytes.now)
-  low_is = end_at p.bytes.now m low (omega arith) le ∙ ap (key_end p.bytes.now) me
-
-  pub middle_at : (4 * m + 2 ≤ low) × (low ≤ 1024)
-  middle_at = (omega (arith, low_is, p.room, p.even), omega (arith, low_is, lowest p.bytes.now p.typed (good_in p)))
-
-  pub cleared_at : (out : List ℕ) → out ≡ p.bytes.now → put out (4 * m + 2) (replicate (low - (4 * m + 2)) 0) ≡ written (pairs_of p.bytes.now)
-  cleared_at out oe =
-      ap (λ (s : List ℕ). put s (4 * m + 2) (replicate (low - (4 * m + 2)) 0)) oe
-      ∙ ap (λ (k : ℕ). put p.bytes.now (4 * m + 2) (replicate (k - (4 * m + 2)) 0)) low_is
-      ∙ ap (λ (k : ℕ). put p.bytes.now (4 * k + 2) (replicate (key_end p.bytes.now (pairs p.bytes.now) - (4 * k + 2)) 0)) me
-      ∙ clear_middle p.bytes.now p.typed (good_in p)
+-- a search for the key, where it is not empty and there is room
+pub found_fits : (p : PairPage) (key value : List ℕ) (found : Option ℕ) (none : Bool) → Which (bytes_of p.good) (pairs (bytes_of p.good)) key found → is_some found ≡ not none
+    → 0 < length key → 2 * count (bytes_of p.good) + 6 + (length key + length value) ≤ key_end (bytes_of p.good) (pairs (bytes_of p.good)) → Decides none (Fits (with_pair (pairs_of (bytes_of p.good)) key value))
+found_fits p key value None true new e named room = (λ _. page_fits (bytes_of p.good) p.typed (good_in p) key value named new room, λ _. refl)
+found_fits p key value None false new e named room = absurd (not_both true refl (sym e))
+found_fits p key value (Some k) true at e named room = absurd (not_both true refl e)
+found_fits p key value (Some k) false at e named room =
+    no_from (λ f. not_both _ at.1 (page_new (bytes_of p.good) p.typed (good_in p) key value f k at.0))
 
 -- without a key that is not there
 pub dropped_none : (key : List ℕ) (ps : List Pair) → ((i : ℕ) → i < length ps → same (key_in ps i) key ≡ false) → dropped key ps ≡ ps
@@ -135,7 +110,7 @@ dropped_one key (p ∷ ps) (suc k) lt e h =
 -- the page without the key
 module _ (p : PairPage) (key : List ℕ) where
   abbrev page : List ℕ
-  page = p.bytes.now
+  page = bytes_of p.good
 
   pub without_none : Which page (pairs page) key None → (false ≡ is_some (look key (pairs_of page))) × (pairs_of page ≡ dropped key (pairs_of page))
   without_none new = (
@@ -159,7 +134,8 @@ module _ (p : PairPage) (key : List ℕ) where
           not_true (same (key_of page i) key)
           (λ t.
           let ik = laws.transitive (key_of page i) key (key_of page k) t (laws.symmetric (key_of page k) key e) in
-          ⊎_elim
+          ⊎_elim ne
+          (⊎_elim
           (λ (h : i < k). not_both _ ik (p.apart i k (h, lt)))
-          (λ (h : k < i). not_both _ (laws.symmetric _ _ ik) (p.apart k i (h, l)))
-          (lt_or_gt i k ne))
+          (λ (h : k < i). not_both _ (laws.symmetric _ _ ik) (p.apart k i (h, l))))
+          (cases_order i k))

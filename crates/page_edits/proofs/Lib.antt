@@ -1,10 +1,8 @@
 pub mod Cut
 pub mod Back
 pub mod One
-pub mod Add
-pub mod Rise
-pub mod Less
-pub mod Sub
-pub mod Fit
 pub mod Packs
+pub mod Kept
+pub mod Rest
+pub mod Fit
 mod Worked

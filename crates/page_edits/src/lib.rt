@@ -5,6 +5,7 @@ mod appending;
 mod bytes;
 mod keeping;
 mod laws;
+mod packing;
 mod removing;
 
 pub use appending::{append, fits};

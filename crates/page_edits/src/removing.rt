@@ -1,89 +1,93 @@
-ghost use Rattle.std.specs.Prelude.{◌≡◌, ℕ, ◌+◌, ◌-◌, ◌*◌, ◌<◌, ◌≤◌, ◌++◌, length, take};
-ghost use Rattle.page_edits.specs.Bytes.{parts, raised};
+ghost use Rattle.std.specs.Prelude.{◌≡◌, ◌+◌, ◌-◌, ◌*◌, ◌<◌, ◌≤◌, ◌++◌, take, drop};
+ghost use Rattle.page_edits.specs.Bytes.{Packed};
 ghost use Rattle.page_edits.specs.Edit.{Removed};
-ghost use Rattle.page_edits.specs.Write.{written};
-ghost use Rattle.pages.specs.Page.{key_at, pairs, pairs_of, val_at};
+ghost use Rattle.page_edits.specs.Write.{offs};
+ghost use Rattle.pages.specs.Blank.{bytes_of};
+ghost use Rattle.pages.specs.Page.{key_end, pairs, pairs_of, val_at};
 ghost use Rattle.std.specs.List.{remove};
 
-use crate::bytes::{PAGE, clear, get16, put_bytes, put16};
+use crate::bytes::put16;
+use crate::packing::Packing;
 use faults::{Fault, Refusal};
-use pages::PairPage;
+use pages::{PAGE, PairPage};
 
 // The page without the key, and whether it was there.
 pub fn without(page: &PairPage, key: &[u8], out: &mut [u8]) -> Result<bool, Fault>
-    ensures { Removed (pairs_of page.now.bytes.now) key.now out.old result out.new }
+    ensures { Removed (pairs_of (bytes_of page.now.good)) key.now out.old result out.new }
 {
-    if out.len() != PAGE {
+    let Some(out) = out.as_mut_array::<PAGE>() else {
         return Err(Fault::database(Refusal::NotABlock, 0));
-    }
+    };
     match page.number_of(key) {
         Some(k) => {
-            copy_but(page, k, out);
+            Removal::new(page, k).copy_rest(out).finish(out);
             Ok(true)
         }
         None => {
-            copy_all(page, out);
+            Packing::of(page, out).finish(out);
             Ok(false)
         }
     }
 }
 
-// The page's pairs, with zeros in the free middle.
-fn copy_all(page: &PairPage, out: &mut [u8])
-    requires { length out.old ≡ 1024 }
-    ensures { out.new ≡ written (pairs_of page.now.bytes.now) }
-{
-    let m = page.count();
-    let low = page.key_end(m);
-    out.copy_from_slice(page.bytes());
-    clear(out, 4 * m + 2, low);
+// A pair that leaves its page: its number, where it starts and ends there, and where the pairs after it start.
+#[derive(Clone, Copy)]
+struct Removal<'a> {
+    page: PairPage<'a>,
+    number: usize,
+    low: usize,
+    start: usize,
+    end: usize,
+    ghost within: { number < pairs (bytes_of page.good) },
+    ghost low_is: { low ≡ key_end (bytes_of page.good) (pairs (bytes_of page.good)) },
+    ghost start_is: { start ≡ val_at (bytes_of page.good) number },
+    ghost end_is: { end ≡ key_end (bytes_of page.good) number },
+    ghost order: { (4 * pairs (bytes_of page.good) + 2 ≤ low) × ((low ≤ start) × ((start ≤ end) × (end ≤ 1024))) },
 }
 
-// The page without pair k.
-fn copy_but(page: &PairPage, k: usize, out: &mut [u8])
-    requires whole { length out.old ≡ 1024 }
-    requires within { k < pairs page.now.bytes.now }
-    ensures { out.new ≡ written (remove (pairs_of page.now.bytes.now) k) }
-{
-    let m = page.count();
-    let low = page.key_end(m);
-    let top = page.key_end(k);
-    let val = page.key_end(k + 1);
-    copy_parts(page.bytes(), m, k, low, top, val, out);
-}
+impl<'a> Removal<'a> {
+    // The removal of pair k.
+    fn new(page: &PairPage<'a>, k: usize) -> Removal<'a>
+        requires { k < pairs (bytes_of page.now.good) }
+        ensures page { result.page ≡ page.now }
+        ensures number { result.number ≡ k }
+    {
+        Removal {
+            page: *page,
+            number: k,
+            low: page.key_end(page.count()),
+            start: page.key_end(k + 1),
+            end: page.key_end(k),
+        }
+    }
 
-// The parts of a page with m pairs, without pair k, which lies from val to top.
-fn copy_parts(page: &[u8], m: usize, k: usize, low: usize, top: usize, val: usize, out: &mut [u8])
-    requires whole { length page.now ≡ 1024 }
-    requires out_whole { length out.old ≡ 1024 }
-    requires few { m ≤ 255 }
-    requires within { k < m }
-    requires order { (4 * m + 2 ≤ low) × ((low ≤ val) × ((val ≤ top) × (top ≤ 1024))) }
-    requires fits { (j : ℕ) → k < j → j < m → (key_at page.now j + (top - val) < 65536) × (val_at page.now j + (top - val) < 65536) }
-    ensures { out.new ≡ parts page.now m k low top val }
-{
-    let gap = top - val;
-    put16(out, 0, 2 * m as u16 - 2);
-    put_bytes(out, 2, &page[2..4 * k + 2]);
-    raise(page, k, m, gap, out);
-    clear(out, 4 * m - 2, low + gap);
-    put_bytes(out, low + gap, &page[low..val]);
-    put_bytes(out, top, &page[top..1024]);
-}
+    // The other pairs of the page: those before it stay where they are, and those after it rise to its end.
+    fn copy_rest(&self, out: &mut [u8; PAGE]) -> Packing
+        ensures { Packed (remove (pairs_of (bytes_of self.now.page.good)) self.now.number) out.new result.count result.free }
+    {
+        let page = self.page.bytes();
+        let free = self.low + (self.end - self.start);
+        let front = 4 * self.number + 2;
+        out[0..front].copy_from_slice(&page[0..front]);
+        self.raise(out);
+        out[free..self.end].copy_from_slice(&page[self.low..self.start]);
+        out[self.end..PAGE].copy_from_slice(&page[self.end..PAGE]);
+        let count = self.page.count() - 1;
+        Packing { count, free }
+    }
 
-// Copies the offsets of the pairs from k + 1 to m one pair down, raised by a gap.
-fn raise(page: &[u8], k: usize, m: usize, gap: usize, out: &mut [u8])
-    requires whole { length page.now ≡ 1024 }
-    requires out_whole { length out.old ≡ 1024 }
-    requires few { m ≤ 255 }
-    requires within { k < m }
-    requires fits { (j : ℕ) → k < j → j < m → (key_at page.now j + gap < 65536) × (val_at page.now j + gap < 65536) }
-    ensures { take (4 * m - 2) out.new ≡ take (4 * k + 2) out.old ++ raised page.now k gap (m - (k + 1)) }
-{
-    for j in k + 1..m {
-        let key = get16(page, 4 * j + 2) + gap;
-        let val = get16(page, 4 * j + 4) + gap;
-        put16(out, 4 * j - 2, key as u16);
-        put16(out, 4 * j, val as u16);
+    // Writes the offsets of the pairs after it, as they are once those have risen.
+    fn raise(&self, out: &mut [u8; PAGE])
+        ensures { take (4 * pairs (bytes_of self.now.page.good) - 2) out.new
+            ≡ take (4 * self.now.number + 2) out.old ++ offs self.now.end (drop (self.now.number + 1) (pairs_of (bytes_of self.now.page.good))) }
+    {
+        let gap = (self.end - self.start) as u16;
+        // Over the numbers of the pairs: a pair's number says where its offsets go.
+        for j in self.number + 1..self.page.count() {
+            if let Some(((key, _), (val, _))) = self.page.pair(j) {
+                put16(out, 4 * j - 2, key + gap);
+                put16(out, 4 * j, val + gap);
+            }
+        }
     }
 }

@@ -1,10 +1,12 @@
 -- A search through a list of pairs, by number.
-use Rattle.std.proofs.Common.{◌≡◌, ℕ, zero, suc, ◌-◌, ◌<◌, true, false, List, [], ◌∷◌, length, get_or, take, drop, Some, None, refl, ap, ◌∙◌, arith}
+use Rattle.std.proofs.Common.{◌≡◌, ℕ, zero, suc, ◌+◌, ◌-◌, ◌<◌, ◌≤◌, true, false, List, [], ◌∷◌, length, get_or, Some, None, sym, refl, ap, ◌∙◌, arith}
 use Rattle.keys.proofs.Sames.{laws}
 use Rattle.keys.specs.Same.{same}
-use Rattle.pages.specs.Page.{Apart, Pair, key_at, key_of, look, pair_of, pairs, pairs_of, val_at, val_of}
-use Rattle.pages.specs.Read.{Found, Which, val_place}
-use Rattle.pages.proofs.Pages.{not_true, not_both}
+use Rattle.pages.proofs.Pages.{offsets_within}
+use Rattle.pages.specs.Page.{Apart, Laid, Pair, key_at, key_end, key_of, look, pair_of, pairs, pairs_of, val_at}
+use Rattle.pages.specs.Read.{Found, PairAt, PartsAt, Place, ValueOf, Which, bytes_at}
+use Rattle.std.specs.Borrow.{Bor}
+use Rattle.std.proofs.lemmas.Bool.{false_from_ne_true}
 use Rattle.std.proofs.lemmas.List.FromFn.{get_or-map-range_with_len, length-map-range_with_len}
 
 abbrev pub none : Pair
@@ -39,12 +41,27 @@ page_some page key k apart lt e =
     (λ j l.
     let lj : j < pairs page = omega arith in
     rw (pair_at page j none lj)
-    (not_true (same (key_of page j) key)
-    (λ t. not_both (same (key_of page j) (key_of page k)) (laws.transitive (key_of page j) key (key_of page k) t (laws.symmetric (key_of page k) key e)) (apart j k (l, lt)))))
+    (false_from_ne_true _
+    (λ t.
+    let both : same (key_of page j) (key_of page k) ≡ true = laws.transitive (key_of page j) key (key_of page k) t (laws.symmetric (key_of page k) key e) in
+    let differ : same (key_of page j) (key_of page k) ≡ false = apart j k (l, lt) in cc)))
     ∙ ap Some at
 
-pub found_at : (page key : List ℕ) (k val end : ℕ) → Apart page (pairs page) → k < pairs page → same (key_of page k) key ≡ true → val ≡ val_at page k → end ≡ key_at page k → Found page key (Some (val, end - val))
-found_at page key k val end apart lt e a b =
-    let p : ◌≡◌ {A = ℕ × ℕ} (val, end - val) (val_place page k) = cc in
-    let v : val_of page k ≡ take (end - val) (drop val page) = cc in
-    (k, lt, p, page_some page key k apart lt e ∙ ap (λ (q : List ℕ). Some (key_of page k, q)) v)
+pub found_at : (page key : List ℕ) (k : ℕ) (p : Place × Place) → Apart page (pairs page) → same (key_of page k) key ≡ true → PairAt page k (Some p) → Found page key (Some p.1)
+found_at page key k p apart e at =
+    let here = ap (λ (q : Place × Place). q.1) at.1 in
+    (k, at.0, here, page_some page key k apart at.0 e ∙ ap (λ (q : Place). Some (key_of page k, bytes_at page q)) (sym here))
+
+pub value_at : (page key : List ℕ) (k : ℕ) (p : Bor (List ℕ) × Bor (List ℕ)) → Apart page (pairs page) → same (key_of page k) key ≡ true → PartsAt page k (Some p) → ValueOf page key (Some p.1)
+value_at page key k p apart e at =
+    (key_of page k, page_some page key k apart at.0 e ∙ ap (λ (v : List ℕ). Some (key_of page k, v)) (sym at.2))
+
+-- the places of a pair lie inside
+pub places_within : (page : List ℕ) → Laid page (pairs page) → (k : ℕ) (key val : Place) → PairAt page k (Some (key, val)) → (key.0 + key.1 ≤ 1024) × (val.0 + val.1 ≤ 1024)
+places_within page laid k key val h =
+    let w = offsets_within page (pairs page) laid k h.0 in
+    let a : key.0 ≡ key_at page k = ap (λ (q : Place × Place). q.0.0) h.1 in
+    let b : key.1 ≡ key_end page k - key_at page k = ap (λ (q : Place × Place). q.0.1) h.1 in
+    let c : val.0 ≡ val_at page k = ap (λ (q : Place × Place). q.1.0) h.1 in
+    let d : val.1 ≡ key_at page k - val_at page k = ap (λ (q : Place × Place). q.1.1) h.1 in
+    (omega (arith, w.1, w.2), omega (arith, w.0, w.1, w.2))

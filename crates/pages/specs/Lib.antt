@@ -1,2 +1,4 @@
 pub mod Page
+pub mod Blank
 pub mod Read
+pub mod Check

@@ -4,7 +4,7 @@ use Rattle.std.specs.Borrow.{Bor}
 use Rattle.faults.specs.declared.Fault.{Fault}
 use Rattle.faults.specs.Numbers.{numbers}
 use Rattle.keys.specs.Same.{same}
-use Rattle.pages.specs.Page.{pairs, pairs_of, key_of, key_at, val_at, key_end, look}
+use Rattle.pages.specs.Page.{pairs, pairs_of, key_of, val_of, key_at, val_at, key_end, look}
 
 -- a place: offset and length
 abbrev pub Place : Type 0
@@ -25,6 +25,11 @@ abbrev pub PairAt : List ℕ → ℕ → Option (Place × Place) → Type 0
 PairAt page k None = pairs page ≤ k
 PairAt page k (Some p) = (k < pairs page) × (p ≡ (key_place page k, val_place page k))
 
+-- the same pair, as the bytes of its key and its value
+abbrev pub PartsAt : List ℕ → ℕ → Option (Bor (List ℕ) × Bor (List ℕ)) → Type 0
+PartsAt page k None = pairs page ≤ k
+PartsAt page k (Some p) = (k < pairs page) × (p.0.now ≡ key_of page k) × (p.1.now ≡ val_of page k)
+
 -- which of the first m pairs has the key
 abbrev pub Which : List ℕ → ℕ → List ℕ → Option ℕ → Type 0
 Which page m key None = (i : ℕ) → i < m → same (key_of page i) key ≡ false
@@ -34,6 +39,11 @@ Which page m key (Some k) = (k < m) × (same (key_of page k) key ≡ true)
 abbrev pub Found : List ℕ → List ℕ → Option Place → Type 0
 Found page key None = look key (pairs_of page) ≡ None
 Found page key (Some p) = (k : ℕ) × (k < pairs page) × (p ≡ val_place page k) × (look key (pairs_of page) ≡ Some (key_of page k, bytes_at page p))
+
+-- the value of a key: that of the pair that has it; none exactly when no pair has
+abbrev pub ValueOf : List ℕ → List ℕ → Option (Bor (List ℕ)) → Type 0
+ValueOf page key None = look key (pairs_of page) ≡ None
+ValueOf page key (Some value) = (spelled : List ℕ) × (look key (pairs_of page) ≡ Some (spelled, value.now))
 
 -- the part of a page at a place: refused 3 where the page is not 1,024 bytes, then 4 where the place reaches outside
 abbrev pub viewed : List ℕ → Place → Result (List ℕ) (ℕ × ℕ × ℕ)

@@ -5,5 +5,5 @@ mod checking;
 mod page;
 mod reading;
 
-pub use page::{PairPage, Place};
+pub use page::{PAGE, PairPage, Place};
 pub use reading::view;

@@ -1,93 +1,110 @@
-ghost use Rattle.std.specs.Prelude.{◌≡◌, ◌+◌, ◌*◌, ◌<◌, ◌≤◌, min, length, replicate, Decides, MatchBool};
+ghost use Rattle.std.specs.Prelude.{◌≡◌, ◌+◌, ◌-◌, ◌≤◌, min, replicate, Decides, MatchBool, is_some};
+ghost use Rattle.pages.specs.Blank.{bytes_of};
+ghost use Rattle.pages.specs.Check.{Checked};
 ghost use Rattle.pages.specs.Page.{Good, key_end, pairs};
-ghost use Rattle.pages.specs.Read.{Found, PairAt, Which, told_part, viewed};
+ghost use Rattle.pages.specs.Read.{Found, PairAt, PartsAt, ValueOf, Which, bytes_at, told_part, viewed};
 
-use crate::checking::{get16, is_good, number_among};
+use crate::checking::{as_good, get16, key_at, key_end, number_among, val_at};
 use crate::page::{PAGE, PairPage, Place};
 use faults::{Fault, Refusal};
 
+static BLANK: [u8; PAGE] = [0; PAGE];
+
 impl<'a> PairPage<'a> {
+    // Reads a page, if it is good.
+    pub fn check(page: &'a [u8]) -> Option<PairPage<'a>>
+        ensures { Checked page.now result }
+    {
+        let page = PairPage::read(page);
+        page.is_good().then_some(page)
+    }
+
     // Reads a page, whatever its bytes are.
     pub fn read(page: &'a [u8]) -> PairPage<'a>
-        ensures good { Decides result.good (Good page.now) }
-        ensures bytes { MatchBool result.good (result.bytes.now ≡ page.now) (result.bytes.now ≡ replicate 1024 0) }
+        ensures good { Decides (is_some result.good) (Good page.now) }
+        ensures bytes { MatchBool (is_some result.good) (bytes_of result.good ≡ page.now) (bytes_of result.good ≡ replicate 1024 0) }
     {
-        if is_good(page) {
-            PairPage {
-                bytes: page,
-                good: true,
-            }
-        } else {
-            PairPage {
-                bytes: blank(),
-                good: false,
-            }
+        PairPage {
+            good: as_good(page),
         }
     }
 
     // Whether the bytes that were read are a good page.
     pub fn is_good(&self) -> bool
-        ensures { result ≡ self.now.good }
+        ensures { result ≡ is_some self.now.good }
     {
-        self.good
+        self.good.is_some()
     }
 
     // The page's bytes; the blank page's where those that were read are not good.
     pub fn bytes(&self) -> &'a [u8]
-        ensures { result.now ≡ self.now.bytes.now }
+        ensures { result.now ≡ bytes_of self.now.good }
     {
-        self.bytes
+        self.block()
     }
 
     // How many pairs the page has.
     pub fn count(&self) -> usize
-        ensures { result ≡ pairs self.now.bytes.now }
+        ensures { result ≡ pairs (bytes_of self.now.good) }
     {
-        get16(self.bytes, 0) / 2
+        get16(self.block(), 0) / 2
     }
 
     // Where the key of pair k ends, and past the last pair where the free middle does.
     pub fn key_end(&self, k: usize) -> usize
-        ensures { result ≡ key_end self.now.bytes.now (min k (pairs self.now.bytes.now)) }
+        ensures { result ≡ key_end (bytes_of self.now.good) (min k (pairs (bytes_of self.now.good))) }
     {
-        key_end(self.bytes, k.min(self.count()))
+        key_end(self.block(), k.min(self.count()))
     }
 
     // Where the key and the value of pair k lie.
     pub fn pair(&self, k: usize) -> Option<(Place, Place)>
-        ensures { PairAt self.now.bytes.now k result }
+        ensures { PairAt (bytes_of self.now.good) k result }
     {
         if k >= self.count() {
             return None;
         }
-        let end = key_end(self.bytes, k);
-        let at = get16(self.bytes, 4 * k + 2);
-        let val = get16(self.bytes, 4 * k + 4);
-        Some((
-            (at as u16, (end - at) as u16),
-            (val as u16, (at - val) as u16),
-        ))
+        let page = self.block();
+        let at = key_at(page, k);
+        Some((place(at, key_end(page, k)), place(val_at(page, k), at)))
+    }
+
+    // The key and the value of pair k, as they lie in the page.
+    pub fn parts(&self, k: usize) -> Option<(&'a [u8], &'a [u8])>
+        ensures { PartsAt (bytes_of self.now.good) k result }
+    {
+        let (key, value) = self.pair(k)?;
+        Some((part(self.block(), key), part(self.block(), value)))
     }
 
     // Which pair has the key.
     pub fn number_of(&self, key: &[u8]) -> Option<usize>
-        ensures { Which self.now.bytes.now (pairs self.now.bytes.now) key.now result }
+        ensures { Which (bytes_of self.now.good) (pairs (bytes_of self.now.good)) key.now result }
     {
-        number_among(self.bytes, self.count(), key)
+        number_among(self.block(), self.count(), key)
     }
 
     // Where the value of the key lies.
     pub fn find(&self, key: &[u8]) -> Option<Place>
-        ensures { Found self.now.bytes.now key.now result }
+        ensures { Found (bytes_of self.now.good) key.now result }
     {
-        match self.number_of(key) {
-            Some(k) => {
-                let val = get16(self.bytes, 4 * k + 4);
-                let end = get16(self.bytes, 4 * k + 2);
-                Some((val as u16, (end - val) as u16))
-            }
-            None => None,
-        }
+        let (_, value) = self.pair(self.number_of(key)?)?;
+        Some(value)
+    }
+
+    // The value of the key, as it lies in the page.
+    pub fn value_of(&self, key: &[u8]) -> Option<&'a [u8]>
+        ensures { ValueOf (bytes_of self.now.good) key.now result }
+    {
+        let (_, part) = self.parts(self.number_of(key)?)?;
+        Some(part)
+    }
+
+    // The same bytes, with their number in the type.
+    fn block(&self) -> &'a [u8; PAGE]
+        ensures { result.now ≡ bytes_of self.now.good }
+    {
+        self.good.unwrap_or(&BLANK)
     }
 }
 
@@ -95,31 +112,29 @@ impl<'a> PairPage<'a> {
 pub fn view(page: &[u8], place: Place) -> Result<&[u8], Fault>
     ensures { told_part result ≡ viewed page.now place }
 {
-    let (offset, len) = place;
     if page.len() != PAGE {
         return Err(Fault::database(Refusal::NotABlock, 0));
     }
-    let from = offset as usize;
-    let to = from + len as usize;
-    if to > PAGE {
-        return Err(Fault::database(Refusal::OutsidePage, 0));
-    }
-    Ok(&page[from..to])
+    let (offset, len) = place;
+    let from = usize::from(offset);
+    page.get(from..from + usize::from(len))
+        .ok_or(Fault::database(Refusal::OutsidePage, 0))
 }
 
-static BLANK: [u8; 1024] = [0; 1024];
-
-// The page with no pair.
-fn blank() -> &'static [u8]
-    ensures { result.now ≡ replicate 1024 0 }
+// The part of a page at a place that lies inside.
+fn part(page: &[u8; PAGE], place: Place) -> &[u8]
+    requires { place.0 + place.1 ≤ 1024 }
+    ensures { result.now ≡ bytes_at page.now place }
 {
-    &BLANK
+    let (offset, len) = place;
+    let from = usize::from(offset);
+    &page[from..from + usize::from(len)]
 }
 
-// Where the key of pair k ends.
-fn key_end(page: &[u8], k: usize) -> usize
-    requires { 4 * k + 2 ≤ length page.now }
-    ensures { result ≡ key_end page.now k }
+// The place from one byte of a page up to another.
+fn place(from: usize, to: usize) -> Place
+    requires { (from ≤ to) × (to ≤ 1024) }
+    ensures { result ≡ (from, to - from) }
 {
-    if k == 0 { PAGE } else { get16(page, 4 * k) }
+    (from as u16, (to - from) as u16)
 }

@@ -22,7 +22,7 @@ pub trait Record: Sized {
     ghost fits: { Self → Type 0 };
 
     // Writes the code to the front of the buffer, and says how long it is. The rest of the buffer stays.
-    fn encode(&self, into: &mut [u8; 960]) -> usize
+    fn encode(&self, into: &mut [u8; LONGEST]) -> usize
         ensures length { result ≡ width }
         ensures code { into.new ≡ code self.now ++ drop width into.old }
         ensures fits { fits self.now };

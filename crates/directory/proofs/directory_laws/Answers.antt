@@ -1,4 +1,3 @@
-use Rattle.std.proofs.Common.{refl}
 use Rattle.directory.proofs.Lookups.{ends_there, ends_once, index_on_way, way_goes_down, ways_part, index_below, page_below, page_reachable, home}
 use Rattle.directory.proofs.Splits.{split_page}
 use Rattle.directory.proofs.directory_laws.Goals as goal
@@ -6,7 +5,6 @@ use Rattle.directory.proofs.directory_laws.Goals as goal
 pub returns : goal.returns
 returns c =
     record {
-      zero = refl;
       ends = ends_there;
       once = ends_once;
       index = index_on_way;

@@ -1,6 +1,5 @@
-use Rattle.std.proofs.Common.{refl}
 use Rattle.keys.proofs.Sames.{laws, by_bytes}
 use Rattle.keys.proofs.key_laws.Goals as goal
 
 pub returns : goal.returns
-returns c = record { zero = refl; laws = laws; bytes = by_bytes }
+returns c = record { laws = laws; bytes = by_bytes }

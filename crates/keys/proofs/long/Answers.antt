@@ -1,8 +1,13 @@
-use Rattle.std.proofs.Common.{ℕ, ◌*◌, length}
-use Rattle.keys.specs.Print.{w8}
-use Rattle.keys.proofs.Prints.{blends_more}
+use Rattle.std.proofs.Common.{ap, ap₂, ◌∙◌, length, fold}
+use Rattle.std.proofs.lemmas.List.{take_all}
+use Rattle.keys.specs.Print.{blend}
+use Rattle.keys.proofs.Prints.{blend_bytes, words_before}
 use Rattle.keys.proofs.long.Goals as goal
 
-pub loop-c-preserved : goal.loop-c-preserved
-loop-c-preserved c =
-    blends_more (λ (n : ℕ). w8 c.args.key.now (8 * n)) (length c.args.key.now) c.loop-c.c c.loop-c.h _ _ c.loop-c.invariant c.word8.ensures c.blend-h.ensures
+pub returns : goal.returns
+returns c =
+    let key = c.args.key.now in
+    let n = length key in
+    let words = c.as_chunks.result.0.now in
+    let folded = c.loop-word.invariant ∙ ap (fold blend_bytes n) (take_all c.loop-word.word-index words c.loop-word-test.false) in
+    c.blend.ensures ∙ ap₂ blend (folded ∙ words_before key words n c.as_chunks.ensures.front) c.word8.ensures

@@ -1,6 +1,6 @@
-use Rattle.std.proofs.Common.{◌≡◌, ℕ, ◌*◌, length}
-use Rattle.keys.specs.Print.{blends, w8}
+use Rattle.std.proofs.Common.{◌≡◌, length, take, fold}
+use Rattle.keys.proofs.Prints.{blend_bytes}
 use Rattle.keys.proofs.long.Given as goal
 
-abbrev pub invariant-loop-c : goal.invariant-loop-c
-invariant-loop-c l = l.h ≡ blends (λ (n : ℕ). w8 l.key (8 * n)) (length l.key) l.c
+abbrev pub invariant-loop-word : goal.invariant-loop-word
+invariant-loop-word l = l.h ≡ fold blend_bytes (length l.key) (take l.word-index l.words)

@@ -1,7 +1,11 @@
-use Rattle.std.proofs.Common.{ℕ, length, get_or, refl}
-use Rattle.keys.proofs.Prints.{blends_more}
+use Rattle.std.proofs.Common.{ap, ◌∙◌, length, fold}
+use Rattle.std.proofs.lemmas.List.{take_all}
+use Rattle.keys.specs.Print.{blend}
+use Rattle.keys.proofs.Prints.{bytes_folded}
 use Rattle.keys.proofs.short.Goals as goal
 
-pub loop-i-preserved : goal.loop-i-preserved
-loop-i-preserved c =
-    blends_more (λ (n : ℕ). get_or c.args.key.now n 0) (length c.args.key.now) c.loop-i.i c.loop-i.h _ _ c.loop-i.invariant refl c.blend-h.ensures
+pub returns : goal.returns
+returns c =
+    let key = c.args.key.now in
+    let n = length key in
+    c.loop-b.invariant ∙ ap (fold blend n) (take_all c.loop-b.b-index key c.loop-b-test.false) ∙ bytes_folded n key

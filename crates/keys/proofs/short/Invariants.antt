@@ -1,6 +1,6 @@
-use Rattle.std.proofs.Common.{◌≡◌, ℕ, length, get_or}
-use Rattle.keys.specs.Print.{blends}
+use Rattle.std.proofs.Common.{◌≡◌, length, take, fold}
+use Rattle.keys.specs.Print.{blend}
 use Rattle.keys.proofs.short.Given as goal
 
-abbrev pub invariant-loop-i : goal.invariant-loop-i
-invariant-loop-i l = l.h ≡ blends (λ (n : ℕ). get_or l.key n 0) (length l.key) l.i
+abbrev pub invariant-loop-b : goal.invariant-loop-b
+invariant-loop-b l = l.h ≡ fold blend (length l.key) (take l.b-index l.key)

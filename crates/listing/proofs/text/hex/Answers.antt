@@ -1,11 +1,9 @@
-use Rattle.std.proofs.Common.{[], ap, ◌∙◌}
-use Rattle.listing.proofs.Texts.{turn}
-use Rattle.listing.specs.Text.{each, two_digits}
-use Rattle.std.proofs.lemmas.List.{take_all}
+use Rattle.std.proofs.Common.{◌≡◌, ℕ, List, IfOk, string_bytes, subst, arith}
+use Rattle.listing.proofs.Texts.{hex_encoded}
 use Rattle.listing.proofs.text.hex.Goals as goal
 
-pub loop-b-preserved : goal.loop-b-preserved
-loop-b-preserved c = turn two_digits c.args.bytes.now c.loop-b.b-index [] _ _ c.loop-b-test.true c.in_ok-push_digits.ensures c.loop-b.invariant
-
 pub returns : goal.returns
-returns c = c.loop-b.invariant ∙ ap (each two_digits) (take_all c.loop-b.b-index c.args.bytes.now c.loop-b-test.false)
+returns c =
+    subst (λ (text : List ℕ). IfOk c.encode.result (λ s. string_bytes s ≡ text))
+    (hex_encoded c.args.bytes.now (λ i. omega (arith, c.type_inv.bytes i)))
+    c.encode.ensures

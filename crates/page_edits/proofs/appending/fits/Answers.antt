@@ -1,31 +1,26 @@
-use Rattle.std.proofs.Common.{false, sym, refl, arith, eqb-true}
+use Rattle.std.proofs.Common.{not, sym, ap, ◌∙◌, arith, eqb-true}
 use borrow.Author.Tests.{eqb-false}
 use Rattle.pages.proofs.Held.{good_in}
 use Rattle.pages.proofs.Pages.{not_both}
-use Rattle.page_edits.proofs.Add.{room_for}
-use Rattle.page_edits.proofs.Fit.{fits_named, no_from, page_fits, page_new}
+use Rattle.page_edits.proofs.Fit.{fits_named, found_fits, no_from, page_room}
 use Rattle.page_edits.proofs.appending.fits.Goals as goal
+use Rattle.page_edits.proofs.appending.fits.Goals.{then-not-is_empty, else-not-is_empty}
 
-pub returns-then-is_empty : goal.returns-then-is_empty
-returns-then-is_empty c =
-    no_from (λ f. let z = eqb-true _ _ (sym c.if-is_empty.ensures) in omega (arith, fits_named _ _ _ f))
+pub returns-then-has_room : goal.returns-then-has_room
+returns-then-has_room c =
+    elim c.if-not-is_empty.branch [
+      | then-not-is_empty w ↦
+          let z = eqb-false _ _ (sym c.is_empty.ensures ∙ w.if-not-is_empty.true) in
+          found_fits c.args.page.now _ _ _ _ c.number_of.ensures c.is_none.ensures (omega arith) (w.has_room.ensures.0 (sym w.value-is ∙ c.if-has_room.true))
+      | else-not-is_empty w ↦ absurd (not_both _ c.if-has_room.true (w.value-is ∙ ap not w.if-not-is_empty.false))
+    ]
 
-pub returns-then-not-has_room : goal.returns-then-not-has_room
-returns-then-not-has_room c =
-    no_from (λ f.
-    not_both false (c.if-not-has_room.ensures.1 (room_for _ c.args.page.now.typed (good_in c.args.page.now) _ _ f)) refl)
-
-pub returns-in-Some : goal.returns-in-Some
-returns-in-Some c =
-    let w = c.in-Some.ensures in
-    no_from (λ f. not_both _ w.1 (page_new _ c.args.page.now.typed (good_in c.args.page.now) _ _ f c.in-Some.field-0 w.0))
-
-pub returns-in-None : goal.returns-in-None
-returns-in-None c = (
-  λ _.
-      page_fits _ c.args.page.now.typed (good_in c.args.page.now) _ _
-      (let z = eqb-false _ _ (sym c.if-is_empty.ensures) in omega arith)
-      c.in-None.ensures
-      (c.if-not-has_room.ensures.0 refl),
-  λ _. refl,
-)
+pub returns-else-has_room : goal.returns-else-has_room
+returns-else-has_room c =
+    rw c.if-has_room.false
+    (elim c.if-not-is_empty.branch [
+      | then-not-is_empty w ↦
+          no_from (λ f. not_both _ (w.has_room.ensures.1 (page_room _ c.args.page.now.typed (good_in c.args.page.now) _ _ f)) (sym w.value-is ∙ c.if-has_room.false))
+      | else-not-is_empty w ↦
+          no_from (λ f. let z = eqb-true _ _ (sym c.is_empty.ensures ∙ w.if-not-is_empty.false) in omega (arith, fits_named _ _ _ f))
+    ])

@@ -1,33 +1,28 @@
-use Rattle.std.proofs.Common.{◌∙◌, arith}
-use Rattle.page_edits.proofs.Packs.{packed_as, packed_none, turn_no, turn_room, turn_yes}
+use Rattle.std.proofs.Common.{arith}
+use Rattle.page_edits.proofs.Kept.{kept_all, kept_no, kept_room, kept_yes}
+use Rattle.page_edits.proofs.Packs.{packed_none}
+use Rattle.pages.specs.Page.{Pair}
+use Rattle.page_edits.specs.Edit.{falls}
 use Rattle.page_edits.proofs.keeping.copy_kept.Goals as goal
-use Rattle.page_edits.proofs.keeping.copy_kept.Goals.{then-falls, else-falls}
+use Rattle.page_edits.proofs.keeping.copy_kept.Goals.{in-Some+then-falls, in-Some+else-falls, in_default}
 
 pub loop-k-init : goal.loop-k-init
-loop-k-init c = packed_none c.args.out.now c.requires
+loop-k-init c = rw (c.new-packing.ensures.count, c.new-packing.ensures.free) (packed_none c.args.out.now (omega arith))
 
-pub place-requires : goal.place-requires
-place-requires c =
-    let r = turn_room c.args.page.now c.args.bits c.args.low c.loop-k.k (omega arith) _ c.bytes-bytes.ensures _ c.offsets-val.ensures.value _ _ _ c.loop-k.invariant c.if-falls.ensures in
-    record { whole = omega arith; room = (omega (arith, r.0, r.1), r.2); within = omega (arith, r.1) }
-
-pub overflow_sub-free-then-falls : goal.overflow_sub-free-then-falls
-overflow_sub-free-then-falls c =
-    let r = turn_room c.args.page.now c.args.bits c.args.low c.loop-k.k (omega arith) _ c.bytes-bytes.ensures _ c.offsets-val.ensures.value _ _ _ c.loop-k.invariant c.if-falls.ensures in
-    omega (arith, r.0)
+pub push-requires : goal.push-requires
+push-requires c =
+    kept_room c.args.page.now (λ q. falls c.args.bits c.args.low q.0) _ _ _ c.in-Some.ensures (c.if-falls.ensures) _ _ _ c.loop-k.invariant
 
 pub loop-k-preserved : goal.loop-k-preserved
 loop-k-preserved c =
-    let p = c.args.page.now in
-    let bits = c.args.bits in
-    let low = c.args.low in
-    elim c.if-falls.branch [
-      | then-falls w ↦
-          packed_as _ _ _ _ _ _ _
-          (turn_yes p bits low c.loop-k.k (omega arith) _ c.bytes-bytes.ensures _ c.offsets-val.ensures.value _ _ _ c.loop-k.invariant w.if-falls.ensures (omega arith))
-          (w.out-is ∙ w.place.ensures) w.many-is w.free-is
-      | else-falls w ↦
-          packed_as _ _ _ _ _ _ _
-          (turn_no p bits low c.loop-k.k (omega arith) _ c.bytes-bytes.ensures _ c.offsets-val.ensures.value _ _ _ c.loop-k.invariant w.if-falls.ensures)
-          w.out-is w.many-is w.free-is
+    let f = λ (q : Pair). falls c.args.bits c.args.low q.0 in
+    elim c.match-parts.branch [
+      | in-Some+then-falls w ↦
+          rw (w.out-is, w.packing-is, kept_yes c.args.page.now f _ _ _ (w.in-Some.ensures) (w.if-falls.ensures)) (w.push.ensures.packed _ c.loop-k.invariant)
+      | in-Some+else-falls w ↦
+          rw (w.out-is, w.packing-is, kept_no c.args.page.now f _ _ _ (w.in-Some.ensures) (w.if-falls.ensures)) c.loop-k.invariant
+      | in_default w ↦ absurd (omega (arith, w.in_default.ensures, c.loop-k-test.true, c.count-k-end.ensures))
     ]
+
+pub returns : goal.returns
+returns c = rw (← kept_all c.args.page.now (λ q. falls c.args.bits c.args.low q.0) c.loop-k.k (omega (arith, c.loop-k-test.false, c.count-k-end.ensures))) c.loop-k.invariant

@@ -1,7 +1,9 @@
-use Rattle.page_edits.proofs.One.{upto}
+use Rattle.std.proofs.Common.{take}
+use Rattle.pages.specs.Blank.{bytes_of}
+use Rattle.pages.specs.Page.{pairs_of}
 use Rattle.page_edits.specs.Bytes.{Packed}
 use Rattle.page_edits.specs.Edit.{falling}
 use Rattle.page_edits.proofs.keeping.copy_kept.Given as goal
 
 abbrev pub invariant-loop-k : goal.invariant-loop-k
-invariant-loop-k l = Packed (falling l.bits l.low (upto l.page.bytes.now l.k)) l.out l.many l.free
+invariant-loop-k l = Packed (falling l.bits l.low (take l.k (pairs_of (bytes_of l.page.good)))) l.out l.packing.count l.packing.free

@@ -1,7 +1,6 @@
-use Rattle.std.proofs.Common.{refl}
 use Rattle.page_edits.proofs.Back.{reads_back}
 use Rattle.page_edits.proofs.One.{one_page, parts_of, same_again}
 use Rattle.page_edits.proofs.laws.page_laws.Goals as goal
 
 pub returns : goal.returns
-returns c = record { zero = refl; back = reads_back; parts = parts_of; one = one_page; again = same_again }
+returns c = record { back = reads_back; parts = parts_of; one = one_page; again = same_again }

@@ -1,6 +1,5 @@
-use Rattle.std.proofs.Common.{refl}
 use Rattle.page_edits.proofs.Worked.{cases}
 use Rattle.page_edits.proofs.laws.worked_cases.Goals as goal
 
 pub returns : goal.returns
-returns c = record { zero = refl; cases = cases }
+returns c = record { cases = cases }

@@ -1,4 +1,4 @@
-use Rattle.std.proofs.Common.{◌≡◌, ℕ, ◌<◌, ◌≤◌, length, get_or}
+use Rattle.std.proofs.Common.{◌≡◌, ℕ, ◌<◌, ◌≤◌, true, false, length, get_or}
 use Rattle.keys.specs.Print.{print}
 use Rattle.pages.specs.Page.{Apart, Laid, key_end, key_of}
 use Rattle.pages.proofs.checking.has_good_pairs.Given as goal
@@ -9,5 +9,5 @@ invariant-loop-k l =
     × (l.end ≤ 1024)
     × Laid l.page l.k
     × Apart l.page l.k
-    × ((i : ℕ) → i < l.k → get_or l.seen (print (key_of l.page i)) 0 ≡ 1)
+    × ((i : ℕ) → i < l.k → get_or l.seen (print (key_of l.page i)) false ≡ true)
     × (length l.seen ≡ 1024)

@@ -45,8 +45,8 @@ pub extern "C" fn sym_find(page: &[u8], key: &[u8]) -> u32
         .map_or(NOT_THERE, |(offset, _)| u32::from(offset))
 }
 
-// Each of the three edits checks its page in its own body, in three lines: one function for all would take the edit as a
-// closure over page and buffer, and say its clause by what the closure says. That is no shorter.
+// The edits answer C yes or no. Each of the three checks its page in its own body, in three lines: one function for all
+// would take the edit as a closure over page and buffer, and say its clause by what the closure says. That is no shorter.
 #[unsafe(no_mangle)]
 pub extern "C" fn sym_without(page: &[u8], key: &[u8], out: &mut [u8]) -> bool
     ensures { Edited page.now out.old result (λ new. new ≡ written (dropped key.now (pairs_of page.now))) out.new }

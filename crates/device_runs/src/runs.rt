@@ -61,7 +61,8 @@ impl Bench {
         }
     }
 
-    // Makes a call on the device and on the model, and compares what they answer.
+    // Makes a call on the device and on the model, and compares what they answer. By kind of call, which is data: it is printed
+    // where they differ.
     fn step<D: Device>(&mut self, device: &mut D, call: Call) -> Result<(), Stop> {
         match call {
             Call::Claim(n) => {

@@ -118,6 +118,7 @@ impl Height for Ground {
 
 impl<H: Height> Height for Above<H> {
     fn grow<D: Device + Drop>(bench: &mut Bench, kinds: &[Kind], below: D) -> Result<(), Stop> {
+        // By kind: each makes a device of another type, which no one value could hold.
         match kinds {
             [] => Ground::grow(bench, kinds, below),
             [Kind::Cache, rest @ ..] => {

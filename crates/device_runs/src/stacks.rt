@@ -52,6 +52,7 @@ pub struct Stack<'a> {
     pub kinds: &'a [Kind],
 }
 
+// By hand: a derive prints no list.
 impl<'a> fmt::Display for Stack<'a> {
     fn fmt<W: fmt::Write>(&self, f: &mut fmt::Formatter<W>) -> fmt::Result {
         f.write_str(self.bottom)?;

@@ -36,6 +36,7 @@ impl Tally {
     }
 }
 
+// By hand: a derive is for errors, which a tally is not.
 impl fmt::Display for Tally {
     fn fmt<W: fmt::Write>(&self, f: &mut fmt::Formatter<W>) -> fmt::Result {
         let Tally {

@@ -3,7 +3,8 @@ ghost use Rattle.slotted.specs.Image.{left_in, limit_in, record_in, used_in};
 
 // Bytes as a device, with an index from block numbers to records. Bytes that are not well-formed have an empty index and no
 // Option of one: no number has a record then, and no call has to ask first. How many records are used and how many are left
-// could be counted anew from the bytes at each claim.
+// could be counted anew from the bytes at each claim. The index is a vector by number: a claim may not lack memory, as one that
+// puts into a map could.
 #[derive(Drop)]
 pub struct Slotted {
     pub(crate) bytes: Vec<u8>,

@@ -1,0 +1,4 @@
+pub mod Blocks
+pub mod Test
+pub mod Contents
+pub mod Laws

@@ -1,0 +1,3 @@
+pub mod Reads
+pub mod Made
+pub mod Pages

@@ -1,1 +1,4 @@
-
+pub mod Tests
+pub mod Joins
+pub mod Held
+pub mod Walks

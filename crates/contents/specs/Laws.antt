@@ -1,7 +1,7 @@
 -- What holds of the contents of every database, whatever its blocks are.
 use Rattle.std.specs.Prelude.{◌≡◌, ℕ, true, false, List, [], ◌∷◌, Some, None, Decides}
 use Rattle.contents.specs.Blocks.{Blocks}
-use Rattle.contents.specs.Contents.{Contents, Holds, Position, contents_of, held, pairs_in, remaining}
+use Rattle.contents.specs.Contents.{Contents, Holds, Position, contents_of, held, remaining}
 use Rattle.contents.specs.Test.{is_good, place_of}
 use Rattle.keys.specs.Same.{same}
 use Rattle.pages.specs.Page.{Good, Pair}

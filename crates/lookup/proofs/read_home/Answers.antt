@@ -1,7 +1,6 @@
-use Rattle.std.proofs.Common.{◌≡◌, ℕ, ◌+◌, ◌<◌, List, [], ◌∷◌, ◌++◌, Ok, Err, Result, sym, ap, subst, ◌∙◌, rules, arith}
+use Rattle.std.proofs.Common.{◌≡◌, ℕ, ◌+◌, [], ◌∷◌, ◌++◌, Ok, Err, Result, sym, ap, subst, ◌∙◌, rules, arith}
 use Rattle.contents.specs.Blocks.{Blocks, bits_in, blocks_of}
 use Rattle.devices.proofs.Traces.{trace_stop}
-use Rattle.devices.specs.Step.{Call}
 use Rattle.devices.specs.Trace.{Did, Trace}
 use Rattle.directory.proofs.Lookups.{page_below}
 use Rattle.directory.specs.Ending.{leaf_of}

@@ -1,18 +1,18 @@
 -- What the writes of splits leave of what is held.
-use Rattle.std.proofs.Common.{◌≡◌, ℕ, zero, suc, ◌+◌, ◌*◌, ◌^◌, ◌<◌, ◌≤◌, Bool, true, false, List, take, eqb, sym, refl, ap, ◌∙◌, subst, inl, inr, ⊎_elim, ◌⊎◌, add-zero, eq-or-lt_of_le, le_of_suc-le-suc, arith, pow_pos}
+use Rattle.std.proofs.Common.{◌≡◌, ℕ, zero, suc, ◌+◌, ◌*◌, ◌^◌, ◌<◌, ◌≤◌, Bool, List, take, eqb, sym, refl, ap, ◌∙◌, subst, inl, inr, ⊎_elim, ◌⊎◌, add-zero, eq-or-lt_of_le, le_of_suc-le-suc, arith, pow_pos}
 use Rattle.contents.specs.Contents.{Contents, held}
 use Rattle.devices.specs.Meaning.{put}
 use Rattle.directory.proofs.Bits.{set_other}
-use Rattle.directory.proofs.Lookups.{index_on_way, page_agree, page_low}
+use Rattle.directory.proofs.Lookups.{index_on_way, page_low}
 use Rattle.directory.proofs.Low.{low_suc}
 use Rattle.directory.proofs.Splits.{split_page, upper_fresh}
-use Rattle.directory.specs.Tree.{NoneUnder, bit, depth_of, index_of, low, node, page_of, set_bit}
+use Rattle.directory.specs.Tree.{NoneUnder, bit, depth_of, low, node, page_of, set_bit}
 use Rattle.keys.specs.Hash.{hash}
 use Rattle.page_edits.specs.Edit.{falling}
 use Rattle.pages.specs.Page.{Pair, look}
 use Rattle.splits.proofs.Finds.{look_falling}
 use Rattle.splits.specs.Plan.{MaySplit}
-use Rattle.splits.specs.Writes.{all_made, made, split, splits, to_bit, to_page}
+use Rattle.splits.specs.Writes.{all_made, split, splits}
 use Rattle.std.proofs.lemmas.Bool.{cases_eq, cond-false, cond-true, eq-eqb, ne_eqb}
 
 -- a place that is put, and one that is not

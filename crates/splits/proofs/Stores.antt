@@ -1,8 +1,8 @@
 -- A store and a delete as changes of what is held.
-use Rattle.std.proofs.Common.{◌≡◌, ℕ, ◌+◌, ◌<◌, Bool, true, false, cond, List, [], ◌∷◌, ◌++◌, length, take, Option, Some, None, sym, refl, ap, ◌∙◌, subst, ⊎_elim, arith, length-append, take_all}
+use Rattle.std.proofs.Common.{◌≡◌, ℕ, ◌+◌, ◌<◌, true, false, cond, List, [], ◌∷◌, ◌++◌, length, take, Option, Some, None, sym, refl, ap, ◌∙◌, subst, ⊎_elim, arith, length-append, take_all}
 use Rattle.contents.specs.Contents.{Contents, held, home}
 use Rattle.directory.proofs.Lookups.{page_low}
-use Rattle.directory.specs.Tree.{depth_of, low, page_of}
+use Rattle.directory.specs.Tree.{low, page_of}
 use Rattle.keys.proofs.Sames.{laws}
 use Rattle.keys.specs.Hash.{hash}
 use Rattle.keys.specs.Same.{same}
@@ -10,7 +10,7 @@ use Rattle.page_edits.specs.Edit.{falling, with_pair}
 use Rattle.pages.specs.Page.{Pair, look}
 use Rattle.splits.proofs.Finds.{look_dropped, look_edited, look_falling}
 use Rattle.splits.proofs.Splits.{Leafed, put_here, put_other, splits_end, splits_keep}
-use Rattle.splits.specs.Laws.{Deletes, StoreIs, Stores}
+use Rattle.splits.specs.Laws.{Deletes, Stores}
 use Rattle.splits.specs.Plan.{MaySplit}
 use Rattle.splits.specs.Writes.{Write, all_made, deleting, depth_at, made, others, pairs_at, splits, storing, to_page}
 use Rattle.std.proofs.lemmas.Bool.{cases_Bool, cases_eq, cond-false}

@@ -1,12 +1,10 @@
 -- How many splits a store makes.
-use Rattle.std.specs.Prelude.{◌≡◌, ℕ, suc, ◌+◌, ◌-◌, ◌*◌, ◌<◌, ◌≤◌, Bool, List, length, min, Option, find, nat_le}
-use Rattle.contents.specs.Contents.{Contents}
+use Rattle.std.specs.Prelude.{ℕ, suc, ◌+◌, ◌-◌, ◌*◌, ◌<◌, ◌≤◌, Bool, List, length, min, Option, find, nat_le}
 use Rattle.directory.specs.Tree.{NoneUnder, node}
-use Rattle.keys.specs.Hash.{hash}
 use Rattle.page_edits.specs.Edit.{with_pair}
 use Rattle.page_edits.specs.Write.{size}
 use Rattle.pages.specs.Page.{Pair}
-use Rattle.splits.specs.Writes.{depth_at, others, pairs_at}
+use Rattle.splits.specs.Writes.{others}
 use Rattle.std.specs.List.{range_with_len}
 
 -- pairs take this many bytes of a page, and have to be at most 1,024

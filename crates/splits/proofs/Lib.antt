@@ -4,3 +4,4 @@ pub mod Stores
 pub mod Rooms
 pub mod Sounds
 pub mod Plans
+pub mod Costs

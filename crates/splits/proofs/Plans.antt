@@ -1,5 +1,6 @@
 -- The least number of splits that makes room.
-use Rattle.std.proofs.Common.{◌≡◌, ℕ, zero, suc, ◌+◌, ◌-◌, ◌<◌, ◌≤◌, Bool, true, false, Option, Some, None, find, min, refl, ap, subst, ⊎_elim, arith}
+use Rattle.std.proofs.Common.{◌≡◌, ℕ, zero, suc, ◌+◌, ◌-◌, ◌<◌, ◌≤◌, Bool, true, false, List, Option, Some, None, find, min, refl, ap, ◌∙◌, subst, ⊎_elim, arith}
+use Rattle.pages.specs.Page.{Pair}
 use Rattle.splits.specs.Laws.{PlansLeast}
 use Rattle.splits.specs.Plan.{fits_at, plan}
 use Rattle.std.proofs.lemmas.Bool.{both_ways, cases_order, cond_both}
@@ -34,6 +35,21 @@ first_once test a n (Some r) (Some s) f g =
     (⊎_elim (λ (e : r ≡ s). e)
     (λ w. absurd (⊎_elim (λ (l : r < s). both_ways (test r) (g.3 r f.0 l) f.2) (λ (l : s < r). both_ways (test s) (f.3 s g.0 l) g.2) w))
     (cases_order r s))
+
+-- an answer that is the first, of the numbers up to the limits, is the plan
+module _ (pairs : List Pair) (key value : List ℕ) (t n : ℕ) (limit : n ≡ min 10 (15 - t)) where
+  abbrev test : ℕ → Bool
+  test s = fits_at pairs key value (t + s)
+
+  first : (r : Option ℕ) → First test 0 (suc n) r → r ≡ plan pairs key value t
+  unfolding plan
+  first r f = first_once test 0 (suc n) r (find test (range_with_len 0 (suc n))) f (first_found test 0 (suc n)) ∙ ap (λ (m : ℕ). find test (range_with_len 0 (suc m))) limit
+
+  pub plan_none : ((s : ℕ) → s ≤ n → test s ≡ false) → None ≡ plan pairs key value t
+  plan_none never = first None (λ s _ l. never s (omega arith))
+
+  pub plan_some : (s : ℕ) → s ≤ n → test s ≡ true → ((r : ℕ) → r < s → test r ≡ false) → Some s ≡ plan pairs key value t
+  plan_some s l e sooner = first (Some s) (omega arith, omega arith, e, λ r _ k. sooner r k)
 
 pub plans_least : PlansLeast
 unfolding plan

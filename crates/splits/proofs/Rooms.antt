@@ -31,6 +31,9 @@ fits_part test ps f = record {
         let y = ap (λ (p : Pair). p.0) (get_or_default ps j d none b) in
         let n = f.apart i j (a, b) in cc
 
+pub fits_none : Fits []
+fits_none = record { named = tt; apart = λ i j h. absurd (omega arith); room = omega arith }
+
 pub fits_falling : (t x : ℕ) (ps : List Pair) → Fits ps → Fits (falling t x ps)
 fits_falling t x ps = fits_part (λ p. falls t x p.0) ps
 

@@ -9,13 +9,20 @@ use Rattle.keys.specs.Hash.{hash}
 use Rattle.page_edits.specs.Edit.{falling, with_pair}
 use Rattle.page_edits.specs.Write.{Fits}
 use Rattle.pages.specs.Page.{Pair}
-use Rattle.splits.proofs.Rooms.{fits_falling, fits_others}
+use Rattle.splits.proofs.Rooms.{fits_falling, fits_none, fits_others}
 use Rattle.splits.proofs.Splits.{deeper}
 use Rattle.splits.proofs.Stores.{all_made_append}
-use Rattle.splits.specs.Laws.{DeletesSound, Grown, Sound, SplitsFree, StoresSound}
+use Rattle.splits.specs.Laws.{BlankSound, DeletesSound, Grown, Sound, SplitsFree, StoresSound}
 use Rattle.splits.specs.Writes.{Write, all_made, deleting, depth_at, made, others, pairs_at, split, splits, storing, to_bit, to_page}
 use Rattle.std.proofs.lemmas.Bool.{both_ways, cases_eq, cases_lt, cond_both}
 use Rattle.std.proofs.lemmas.List.{take-append-le}
+
+pub blank_sound : BlankSound
+blank_sound c blank = record {
+  grown = λ i _. (blank.clear (2 * i + 1), blank.clear (2 * i + 2));
+  past = λ i _. blank.clear i;
+  fits = λ p. rw (blank.empty p) fits_none;
+}
 
 -- under a clear bit of a way all bits of the way are clear
 clear_below : (bits : ℕ → Bool) (h t j : ℕ) → Grown bits → bits (node h t) ≡ false → bits (node h (t + j)) ≡ false

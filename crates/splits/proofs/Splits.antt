@@ -40,7 +40,7 @@ data Moved (bits : ℕ → Bool) (h t g : ℕ) : Type 0 where
   away : (page_of bits g ≡ low h t → ⊥) → page_of (set_bit bits (node h t)) g ≡ page_of bits g → Moved bits h t g
 
 -- what the bits have to be for a split of the leaf of h, at depth t
-abbrev pub MaySet : (ℕ → Bool) → ℕ → ℕ → Type 0
+abbrev MaySet : (ℕ → Bool) → ℕ → ℕ → Type 0
 MaySet bits h t = (t < 15) × (suc t < 15 → NoneUnder bits (node h t))
 
 -- the lookups after the bit is set, with the index as that on the way of h
@@ -73,12 +73,12 @@ pub deeper : (bits : ℕ → Bool) (h t : ℕ) → depth_of bits h ≡ t → May
 deeper bits h t deep = subst (λ (d : ℕ). MaySet bits h d → depth_of (set_bit bits (node h d)) h ≡ suc d) deep (λ m. (set_at bits h h m).0 refl)
 
 -- The lookup of h ends at depth t, and there its page shows what the pairs do.
-pub record Leafed (c : Contents) (h t : ℕ) (pairs : List Pair) : Type 0 where
+pub record LeafShows (c : Contents) (h t : ℕ) (pairs : List Pair) : Type 0 where
   pub depth : depth_of c.bits h ≡ t
   pub shows : (k : List ℕ) → low (hash k) t ≡ low h t → look k (c.pages (low h t)) ≡ look k pairs
 
 -- one split
-module _ (c : Contents) (h t : ℕ) (pairs : List Pair) (at : Leafed c h t pairs) where
+module _ (c : Contents) (h t : ℕ) (pairs : List Pair) (at : LeafShows c h t pairs) where
   abbrev lower : ℕ
   lower = low h t
 
@@ -103,14 +103,14 @@ module _ (c : Contents) (h t : ℕ) (pairs : List Pair) (at : Leafed c h t pairs
   found p k home e q = look_falling (suc t) p k pairs q ∙ sym (at.shows k e) ∙ ap (λ (x : ℕ). look k (c.pages x)) (sym home)
 
   -- after the first write: no lookup ends at the page that it is to
-  pub after_one : (k : List ℕ) → look k (pages1 (page_of c.bits (hash k))) ≡ held c k
+  after_one : (k : List ℕ) → look k (pages1 (page_of c.bits (hash k))) ≡ held c k
   after_one k =
       let g = hash k in
       ap (look k) (put_other c.pages upper (falling (suc t) upper pairs) (page_of c.bits g)
       (λ e. upper_fresh c.bits g h (e ∙ ap (λ (d : ℕ). low h d + 2 ^ d) (sym at.depth))))
 
   -- after the second: the upper half is sought through on its page, and the lower still on the whole one
-  pub after_two : MaySet c.bits h t → (k : List ℕ) → look k (pages1 (page_of bits' (hash k))) ≡ held c k
+  after_two : MaySet c.bits h t → (k : List ℕ) → look k (pages1 (page_of bits' (hash k))) ≡ held c k
   after_two may k = by (moved c.bits h t (hash k) at.depth may)
     where
       g : ℕ
@@ -126,7 +126,7 @@ module _ (c : Contents) (h t : ℕ) (pairs : List Pair) (at : Leafed c h t pairs
       by (away n to) = ap (λ (p : ℕ). look k (pages1 p)) to ∙ after_one k
 
   -- after the third: each half is sought through on its page
-  pub after_three : MaySet c.bits h t → (k : List ℕ) → look k (pages3 (page_of bits' (hash k))) ≡ held c k
+  after_three : MaySet c.bits h t → (k : List ℕ) → look k (pages3 (page_of bits' (hash k))) ≡ held c k
   after_three may k = by (moved c.bits h t (hash k) at.depth may)
     where
       g : ℕ
@@ -158,8 +158,8 @@ module _ (c : Contents) (h t : ℕ) (pairs : List Pair) (at : Leafed c h t pairs
       (half h t)
 
   -- and its lookup ends there
-  pub leafed_next : MaySet c.bits h t → Leafed (all_made (split pairs h t) c) h (suc t) pairs
-  leafed_next may = record {
+  pub leaf_next : MaySet c.bits h t → LeafShows (all_made (split pairs h t) c) h (suc t) pairs
+  leaf_next may = record {
     depth = deeper c.bits h t at.depth may;
     shows = λ k e. ap (look k) own_half ∙ look_falling (suc t) (low h (suc t)) k pairs e;
   }
@@ -175,10 +175,10 @@ none_under_set bits h s t l none =
     let m = node_mono h s t l in
     (set_other bits (node h s) (2 * node h t + 1) (omega arith) ∙ none.0, set_other bits (node h s) (2 * node h t + 2) (omega arith) ∙ none.1)
 
-pub may_now : (bits : ℕ → Bool) (h t s : ℕ) → MaySplit bits h t (suc s) → MaySet bits h t
+may_now : (bits : ℕ → Bool) (h t s : ℕ) → MaySplit bits h t (suc s) → MaySet bits h t
 may_now bits h t s may = (omega (arith, may.limit), subst (λ (u : ℕ). suc u < 15 → NoneUnder bits (node h u)) (add-zero t) (may.clear 0 (omega arith)))
 
-pub may_next : (bits : ℕ → Bool) (h t s : ℕ) → MaySplit bits h t (suc s) → MaySplit (set_bit bits (node h t)) h (suc t) s
+may_next : (bits : ℕ → Bool) (h t s : ℕ) → MaySplit bits h t (suc s) → MaySplit (set_bit bits (node h t)) h (suc t) s
 may_next bits h t s may = record {
   limit = omega (arith, may.limit);
   clear = λ j l.
@@ -188,20 +188,20 @@ may_next bits h t s may = record {
 }
 
 -- any front of the writes of the splits changes nothing that is held
-pub splits_keep : (s : ℕ) (c : Contents) (h t : ℕ) (pairs : List Pair) → Leafed c h t pairs → MaySplit c.bits h t s
+pub splits_keep : (s : ℕ) (c : Contents) (h t : ℕ) (pairs : List Pair) → LeafShows c h t pairs → MaySplit c.bits h t s
     → (n : ℕ) (k : List ℕ) → held (all_made (take n (splits pairs h t s)) c) k ≡ held c k
 splits_keep s c h t pairs at may zero k = refl
 splits_keep zero c h t pairs at may (suc n) k = refl
 splits_keep (suc s) c h t pairs at may (suc zero) k = after_one c h t pairs at k
 splits_keep (suc s) c h t pairs at may (suc (suc zero)) k = after_two c h t pairs at (may_now c.bits h t s may) k
 splits_keep (suc s) c h t pairs at may (suc (suc (suc n))) k =
-    splits_keep s (all_made (split pairs h t) c) h (suc t) pairs (leafed_next c h t pairs at (may_now c.bits h t s may)) (may_next c.bits h t s may) n k
+    splits_keep s (all_made (split pairs h t) c) h (suc t) pairs (leaf_next c h t pairs at (may_now c.bits h t s may)) (may_next c.bits h t s may) n k
     ∙ after_three c h t pairs at (may_now c.bits h t s may) k
 
 -- after all of them the lookup of h ends so many levels deeper
-pub splits_end : (s : ℕ) (c : Contents) (h t : ℕ) (pairs : List Pair) → Leafed c h t pairs → MaySplit c.bits h t s → Leafed (all_made (splits pairs h t s) c) h (t + s) pairs
+pub splits_end : (s : ℕ) (c : Contents) (h t : ℕ) (pairs : List Pair) → LeafShows c h t pairs → MaySplit c.bits h t s → LeafShows (all_made (splits pairs h t s) c) h (t + s) pairs
 splits_end zero c h t pairs at may = rw (add-zero t) at
 splits_end (suc s) c h t pairs at may =
     let e : suc t + s ≡ t + suc s = omega arith in
-    subst (λ (u : ℕ). Leafed (all_made (splits pairs h t (suc s)) c) h u pairs) e
-    (splits_end s (all_made (split pairs h t) c) h (suc t) pairs (leafed_next c h t pairs at (may_now c.bits h t s may)) (may_next c.bits h t s may))
+    subst (λ (u : ℕ). LeafShows (all_made (splits pairs h t (suc s)) c) h u pairs) e
+    (splits_end s (all_made (split pairs h t) c) h (suc t) pairs (leaf_next c h t pairs at (may_now c.bits h t s may)) (may_next c.bits h t s may))

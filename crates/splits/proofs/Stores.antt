@@ -9,7 +9,7 @@ use Rattle.keys.specs.Same.{same}
 use Rattle.page_edits.specs.Edit.{falling, with_pair}
 use Rattle.pages.specs.Page.{Pair, look}
 use Rattle.splits.proofs.Finds.{look_dropped, look_edited, look_falling}
-use Rattle.splits.proofs.Splits.{Leafed, put_here, put_other, splits_end, splits_keep}
+use Rattle.splits.proofs.Splits.{LeafShows, put_here, put_other, splits_end, splits_keep}
 use Rattle.splits.specs.Laws.{Deletes, Stores}
 use Rattle.splits.specs.Plan.{MaySplit}
 use Rattle.splits.specs.Writes.{Write, all_made, deleting, depth_at, made, others, pairs_at, splits, storing, to_page}
@@ -17,11 +17,11 @@ use Rattle.std.proofs.lemmas.Bool.{cases_Bool, cases_eq, cond-false}
 use Rattle.std.proofs.lemmas.List.{take-append-le}
 
 -- the leaf of a key, with the pairs on its page
-leafed_here : (c : Contents) (key : List ℕ) → Leafed c (hash key) (depth_at c key) (pairs_at c key)
-leafed_here c key = record { depth = refl; shows = λ k e. refl }
+pub leaf_here : (c : Contents) (key : List ℕ) → LeafShows c (hash key) (depth_at c key) (pairs_at c key)
+leaf_here c key = record { depth = refl; shows = λ k e. refl }
 
 -- an edit at a key of the pairs on its page whose lookup ends there
-last_write : (c : Contents) (key : List ℕ) (t : ℕ) (pairs ps : List Pair) (o : Option Pair) → Leafed c (hash key) t pairs
+pub last_write : (c : Contents) (key : List ℕ) (t : ℕ) (pairs ps : List Pair) (o : Option Pair) → LeafShows c (hash key) t pairs
     → ((k : List ℕ) → look k ps ≡ cond (same key k) o (look k (falling t (low (hash key) t) pairs)))
     → (k : List ℕ) → held (made (to_page (low (hash key) t) ps) c) k ≡ cond (same key k) o (held c k)
 last_write c key t pairs ps o at is k =
@@ -46,7 +46,7 @@ pub deletes : Deletes
 unfolding deleting
 deletes c key k =
     let t = depth_at c key in
-    last_write c key t (pairs_at c key) (others (pairs_at c key) key t) None (leafed_here c key)
+    last_write c key t (pairs_at c key) (others (pairs_at c key) key t) None (leaf_here c key)
     (λ k. look_dropped key k (falling t (low (hash key) t) (pairs_at c key))) k
 
 pub all_made_append : (xs ys : List Write) (c : Contents) → all_made (xs ++ ys) c ≡ all_made ys (all_made xs c)
@@ -54,7 +54,7 @@ all_made_append [] ys c = refl
 all_made_append (x ∷ xs) ys c = all_made_append xs ys (made x c)
 
 -- the pair to be stored goes to the page of its key after the splits
-pub store_ends : (s : ℕ) (c : Contents) (key value : List ℕ) → MaySplit c.bits (hash key) (depth_at c key) s
+store_ends : (s : ℕ) (c : Contents) (key value : List ℕ) → MaySplit c.bits (hash key) (depth_at c key) s
     → (k : List ℕ) → held (all_made (storing s c key value) c) k ≡ cond (same key k) (Some (key, value)) (held c k)
 unfolding storing
 store_ends s c key value may k =
@@ -65,14 +65,14 @@ store_ends s c key value may k =
     let last = to_page (low (hash key) (t + s)) (with_pair (others pairs key (t + s)) key value) in
     let kept : held e k ≡ held c k
     = ap (λ (l : List Write). held (all_made l c) k) (sym (take_all (length ws) ws (omega arith)))
-    ∙ splits_keep s c (hash key) t pairs (leafed_here c key) may (length ws) k in
+    ∙ splits_keep s c (hash key) t pairs (leaf_here c key) may (length ws) k in
     ap (λ (d : Contents). held d k) (all_made_append ws (last ∷ []) c)
-    ∙ last_write e key (t + s) pairs (with_pair (others pairs key (t + s)) key value) (Some (key, value)) (splits_end s c (hash key) t pairs (leafed_here c key) may)
+    ∙ last_write e key (t + s) pairs (with_pair (others pairs key (t + s)) key value) (Some (key, value)) (splits_end s c (hash key) t pairs (leaf_here c key) may)
     (λ k. look_edited key value k (falling (t + s) (low (hash key) (t + s)) pairs)) k
     ∙ ap (λ (o : Option Pair). cond (same key k) (Some (key, value)) o) kept
 
 -- a front without the last write is one of the splits
-pub store_fronts : (s : ℕ) (c : Contents) (key value : List ℕ) (n : ℕ) → n < length (storing s c key value)
+store_fronts : (s : ℕ) (c : Contents) (key value : List ℕ) (n : ℕ) → n < length (storing s c key value)
     → take n (storing s c key value) ≡ take n (splits (pairs_at c key) (hash key) (depth_at c key) s)
 unfolding storing
 store_fronts s c key value n l =
@@ -85,6 +85,6 @@ pub stores : Stores
 stores s c key value may = record {
   cut = λ n l k.
       ap (λ (ws : List Write). held (all_made ws c) k) (store_fronts s c key value n l)
-      ∙ splits_keep s c (hash key) (depth_at c key) (pairs_at c key) (leafed_here c key) may n k;
+      ∙ splits_keep s c (hash key) (depth_at c key) (pairs_at c key) (leaf_here c key) may n k;
   whole = store_ends s c key value may;
 }

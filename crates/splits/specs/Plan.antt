@@ -15,7 +15,8 @@ has_room pairs = nat_le (2 + (4 * length pairs + size pairs)) 1024
 abbrev pub fits_at : List Pair → List ℕ → List ℕ → ℕ → Bool
 fits_at pairs key value t = has_room (with_pair (others pairs key t) key value)
 
--- the least number of splits, from depth t on, after which the pair fits: at most 10, and none below depth 15
+-- The least number of splits, from depth t on, after which the pair fits: at most 10, and none below depth 15. From depth 15
+-- on only 0 is tried.
 unfoldable pub plan : List Pair → List ℕ → List ℕ → ℕ → Option ℕ
 plan pairs key value t = find (λ s. fits_at pairs key value (t + s)) (range_with_len 0 (suc (min 10 (15 - t))))
 

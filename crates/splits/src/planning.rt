@@ -15,8 +15,8 @@ const MAX_SPLITS: u32 = 10;
 // A page at this depth is not split.
 const MAX_DEPTH: u32 = 15;
 
-// The least number of splits after which the pair fits on the key's page, beside those that stay there with it; none where no
-// number does. The page is that of the key's leaf.
+// The least number of splits of the key's leaf, each of the half that the key falls in, after which the pair fits on its page
+// beside those that stay there; none where no number does. The page is the leaf's, as it is before the splits.
 pub fn plan(page: &PairPage, leaf: &Leaf, key: &[u8], value: &[u8]) -> Option<u32>
     ensures { result ≡ plan (pairs_of (bytes_of page.now.good)) key.now value.now leaf.now.depth }
 {

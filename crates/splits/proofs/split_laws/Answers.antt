@@ -1,8 +1,11 @@
 use Rattle.splits.proofs.Plans.{plans_least}
 use Rattle.splits.proofs.Rooms.{room_decides}
-use Rattle.splits.proofs.Sounds.{deletes_sound, splits_free, stores_sound}
+use Rattle.splits.proofs.Sounds.{blank_sound, deletes_sound, splits_free, stores_sound}
 use Rattle.splits.proofs.Stores.{deletes, stores}
 use Rattle.splits.proofs.split_laws.Goals as goal
+
+pub returns-clause-blank : goal.returns-clause-blank
+returns-clause-blank c = blank_sound
 
 pub returns-clause-free : goal.returns-clause-free
 returns-clause-free c = splits_free

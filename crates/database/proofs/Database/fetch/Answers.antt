@@ -1,4 +1,4 @@
-use Rattle.std.proofs.Common.{◌≡◌, ℕ, List, length, Ok, Err, Option, Result, sym, ap, subst, ◌∙◌, rules, refl}
+use Rattle.std.proofs.Common.{◌≡◌, length, Ok, Err, Option, Result, sym, subst, ◌∙◌, rules, refl}
 use Rattle.contents.specs.Blocks.{blocks_of}
 use Rattle.contents.specs.Contents.{contents_of}
 use Rattle.database.specs.Shown.{ShowsValue}

@@ -67,13 +67,11 @@ Never (Err f) = (refusal_number f.refusal ≢ 6) × (refusal_number f.refusal �
 abbrev pub StoreNever : Type 0
 StoreNever = (pairs : List Pair) (d e : Meaning) (key value : List ℕ) (mode : Mode) (r : Result Unit Fault)
     → Holding pairs d
-    → ((n : ℕ) → refusal_number (d.spent n).refusal ≡ 10)
     → Trace Step d (store_calls (blocks_of d) key value mode) (stored (blocks_of d) key value mode) r e
     → Never r
 
 abbrev pub DeleteNever : Type 0
 DeleteNever = (pairs : List Pair) (d e : Meaning) (key : List ℕ) (r : Result Bool Fault)
     → Holding pairs d
-    → ((n : ℕ) → refusal_number (d.spent n).refusal ≡ 10)
     → Trace Step d (delete_calls (blocks_of d) key) (deleted (blocks_of d) key) r e
     → Never r

@@ -1,13 +1,13 @@
 -- What a visit of a page calls, answers and leaves.
 use Rattle.std.proofs.Common.{◌≡◌, ℕ, ◌+◌, Bool, true, false, cond, eqb, ◌==◌, List, [], ◌∷◌, ◌++◌, Option, None, Ok, Err, Result, inr, refl, sym, ap, ◌∙◌, subst}
 use mathlib.Core.Path.{fun_ext}
-use Rattle.contents.specs.Blocks.{Blocks, bits_in, page_in}
+use Rattle.contents.specs.Blocks.{Blocks, bits_in, blocks_of, page_in}
 use Rattle.contents.specs.Test.{is_good}
 use Rattle.database.specs.Fetch.{home_page}
 use Rattle.database.specs.Step.{Shows, first_home, last_page, reachable, visit_calls, visited}
 use Rattle.devices.proofs.Traces.{trace_then}
 use Rattle.devices.specs.Meaning.{Meaning}
-use Rattle.devices.specs.Step.{Call, read}
+use Rattle.devices.specs.Step.{Call, Filled, read}
 use Rattle.devices.specs.Trace.{Account, Did, Trace}
 use Rattle.directory.proofs.Lookups.{home_test}
 use Rattle.directory.specs.Ending.{leaf_of}
@@ -15,8 +15,9 @@ use Rattle.directory.specs.Tree.{low, page_of}
 use Rattle.directory.specs.declared.Leaf.{Leaf}
 use Rattle.faults.specs.declared.Fault.{Fault}
 use Rattle.keys.specs.Hash.{hash}
+use Rattle.lookup.proofs.Reading.{filled_shown, reads_keep}
 use Rattle.lookup.specs.Pages.{bad_page}
-use Rattle.lookup.specs.Reads.{lookup_calls, reads}
+use Rattle.lookup.specs.Reads.{lookup_calls, lookup_reads, reads}
 use Rattle.std.proofs.lemmas.Bool.{cond-false, cond-true, eq-eqb, ne_eqb}
 
 module _ (blocks : Blocks) (p : ℕ) (leaf : Leaf) (found : leaf ≡ leaf_of (bits_in blocks) p) where
@@ -48,11 +49,17 @@ module _ (blocks : Blocks) (p : ℕ) (here : reachable blocks p ≡ true) where
 
   pub here_bad : (n : ℕ) → is_good (page_in blocks p) ≡ false → visited blocks p n ≡ Err (bad_page (4 + p))
   unfolding visited
-  here_bad n bad = ?
+  here_bad n bad =
+      let page = page_in blocks p in
+      let good : Result (Option Shows) Fault = Ok (first_home (λ key. home_page blocks key == p) page p n) in
+      cond-true (reachable blocks p) _ (Ok None) here ∙ cond-false (is_good page) good (Err (bad_page (4 + p))) bad
 
   pub here_good : (n : ℕ) → is_good (page_in blocks p) ≡ true → visited blocks p n ≡ Ok (first_home (λ key. home_page blocks key == p) (page_in blocks p) p n)
   unfolding visited
-  here_good n good = ?
+  here_good n good_page =
+      let page = page_in blocks p in
+      let good : Result (Option Shows) Fault = Ok (first_home (λ key. home_page blocks key == p) page p n) in
+      cond-true (reachable blocks p) _ (Ok None) here ∙ cond-true (is_good page) good (Err (bad_page (4 + p))) good_page
 
 module _ (blocks : Blocks) (p : ℕ) (past : reachable blocks p ≡ false) where
   pub past_calls : visit_calls blocks p ≡ lookup_calls blocks p ++ []
@@ -64,3 +71,22 @@ module _ (blocks : Blocks) (p : ℕ) (past : reachable blocks p ≡ false) where
   pub past_none : (n : ℕ) → visited blocks p n ≡ Ok None
   unfolding visited
   past_none n = cond-false (reachable blocks p) _ (Ok None) past
+
+-- after calls that were all accepted, a read that was accepted too, and the answer
+module _ {S X Y : Type 0} (steps : Account S) (M : S → Meaning) (cs : List Call) (d m e : S) (x y : X) (own : Result Y Fault) (n size : ℕ) where
+  abbrev did : S → Call → Result Unit Fault → S → Type 0
+  did = Did steps M
+
+  read_answered : size ≡ 1024 → (r : Result Y Fault) → r ≡ own → did m (read n size) (Ok tt) e → Trace did m (reads (n ∷ [])) own r e
+  read_answered whole (Ok z) is s = (e, subst (λ (k : ℕ). did m (read n k) (Ok tt) e) whole s, (is, refl))
+  read_answered whole (Err f) is s = inr (e, subst (λ (k : ℕ). did m (read n k) (Ok tt) e) whole s, (is, refl))
+
+  pub read_then : size ≡ 1024 → (r : Result Y Fault) → r ≡ own → Trace did d cs (Ok x) (Ok y) m → did m (read n size) (Ok tt) e → Trace did d (cs ++ reads (n ∷ [])) own r e
+  read_then whole r is t s = trace_then did cs (reads (n ∷ [])) d m e x y own r t (read_answered whole r is s)
+
+-- after an accepted lookup, the page that was read is the one that the blocks had at its entry
+pub read_page : {S X : Type 0} (steps : Account S) (M : S → Meaning) (p : ℕ) (d m e : S) (own r : Result X Fault) → Trace (Did steps M) d (lookup_calls (blocks_of (M d)) p) own r m
+    → (size : ℕ) (old new : List ℕ) → size ≡ 1024 → Did steps M m (read (4 + p) size) (Ok tt) e → Filled (M m) (4 + p) (Ok tt) old new → new ≡ page_in (blocks_of (M d)) p
+read_page steps M p d m e own r t size old new whole s filled =
+    filled_shown steps M m e (4 + p) size (Ok tt) old new whole s filled
+    ∙ ap (λ (b : Blocks). b (4 + p)) (reads_keep steps M (lookup_reads (bits_in (blocks_of (M d))) p) d m own r t)

@@ -1,2 +1,3 @@
 pub mod Finds
 pub mod Visits
+pub mod Steps

@@ -1,3 +1,4 @@
 pub mod Finds
 pub mod Visits
 pub mod Steps
+pub mod Walks

@@ -1,18 +1,21 @@
 -- A visit and the visits after it.
-use Rattle.std.proofs.Common.{◌≡◌, ℕ, suc, ◌+◌, ◌-◌, ◌<◌, cond, List, [], ◌∷◌, ◌++◌, Option, Some, None, Ok, Err, OnOk, Result, inl, inr, refl, sym, ap, ap₂, ◌∙◌, subst, ⊎_elim, add-one, arith}
+use Rattle.std.proofs.Common.{◌≡◌, ℕ, suc, ◌+◌, ◌-◌, ◌<◌, ◌==◌, cond, List, [], ◌∷◌, ◌++◌, Option, Some, None, Ok, Err, OnOk, Result, inl, inr, refl, sym, ap, ap₂, ◌∙◌, subst, ⊎_elim, add-one, arith}
 use Rattle.contents.specs.Blocks.{Blocks, bits_in, blocks_of}
-use Rattle.database.specs.Step.{Shows, calls_from, last_page, onward, page_from, reachable, step_from, visit_calls, visited}
+use Rattle.contents.specs.Contents.{Position}
+use Rattle.database.specs.Step.{Shows, calls_from, last_page, onward, page_from, reachable, step_calls, step_from, stepped, visit_calls, visited}
 use Rattle.database.specs.declared.Stepped.{Stepped}
 use Rattle.database.specs.declared.Stepped.TheVariants.{Pair}
 use Rattle.devices.proofs.Traces.{trace_stop, trace_then}
 use Rattle.devices.specs.Meaning.{Meaning}
-use Rattle.devices.specs.Step.{Call}
+use Rattle.devices.specs.Step.{Call, fault}
 use Rattle.devices.specs.Trace.{Account, Did, Trace}
 use Rattle.faults.specs.declared.Fault.{Fault}
+use Rattle.faults.specs.declared.Layer.TheVariants.{Database}
+use Rattle.faults.specs.declared.Refusal.TheVariants.{NotABlock}
 use Rattle.lookup.proofs.Reading.{own_answer, reads_append, reads_keep}
 use Rattle.lookup.specs.Made.{Made}
 use Rattle.lookup.specs.Reads.{lookup_reads, reads}
-use Rattle.std.proofs.lemmas.Bool.{cond-false, cond-true, cond_both}
+use Rattle.std.proofs.lemmas.Bool.{cond-false, cond-true, cond_both, eq-eqb, ne_eqb}
 
 -- the calls, the answer and the page of a step, by what the first visit finds
 abbrev calls_after : List Call → List Call → Result (Option Shows) Fault → List Call
@@ -121,3 +124,27 @@ module _ {S : Type 0} (steps : Account S) (M : S → Meaning) (blocks : Blocks) 
 
     pub page_on : v ≡ Ok None → page_from blocks (32768 - (p + 1)) (p + 1) 0 new ≡ page_from blocks (32768 - p) p n old
     page_on is = ap₂ (λ (q : ℕ) (s : List ℕ). page_from blocks k q 0 s) (add-one p) (filled_with None is) ∙ page_whole None is
+
+-- a step into a buffer that is a page, and into one that is not
+module _ {S : Type 0} (did : S → Call → Result Unit Fault → S → Type 0) (blocks : Blocks) (at : Position) (size : ℕ) where
+  pub whole_trace : size ≡ 1024 → (d e : S) (r v : Result Stepped Fault) → r ≡ v → Trace did d (calls_from blocks (32768 - at.0) at.0 at.1) (step_from blocks (32768 - at.0) at.0 at.1) v e
+      → Trace did d (step_calls blocks at size) (stepped blocks at size) r e
+  unfolding step_calls stepped
+  whole_trace whole d e r v is t =
+      let calls = calls_from blocks (32768 - at.0) at.0 at.1 in
+      let answer = step_from blocks (32768 - at.0) at.0 at.1 in
+      let not : Result Stepped Fault = Err (fault NotABlock Database 0) in
+      let yes = eq-eqb size 1024 whole in
+      subst (λ (cs : List Call). Trace did d cs (cond (size == 1024) answer not) r e) (sym (cond-true (size == 1024) calls [] yes))
+      (subst (λ (own : Result Stepped Fault). Trace did d calls own r e) (sym (cond-true (size == 1024) answer not yes))
+      (subst (λ (w : Result Stepped Fault). Trace did d calls answer w e) (sym is) t))
+
+  pub not_whole : (size ≡ 1024 → ⊥) → (d : S) (f : Fault) → f ≡ fault NotABlock Database 0 → Trace did d (step_calls blocks at size) (stepped blocks at size) (Err f) d
+  unfolding step_calls stepped
+  not_whole other d f is =
+      let calls = calls_from blocks (32768 - at.0) at.0 at.1 in
+      let answer = step_from blocks (32768 - at.0) at.0 at.1 in
+      let not : Result Stepped Fault = Err (fault NotABlock Database 0) in
+      let no = ne_eqb size 1024 other in
+      subst (λ (cs : List Call). Trace did d cs (cond (size == 1024) answer not) (Err f) d) (sym (cond-false (size == 1024) calls [] no))
+      (ap Err is ∙ sym (cond-false (size == 1024) answer not no), refl)

@@ -1,5 +1,5 @@
 -- What a visit of a page calls, answers and leaves.
-use Rattle.std.proofs.Common.{◌≡◌, ℕ, ◌+◌, Bool, true, false, cond, eqb, ◌==◌, List, [], ◌∷◌, ◌++◌, Option, None, Ok, Err, Result, inr, refl, sym, ap, ◌∙◌, subst}
+use Rattle.std.proofs.Common.{◌≡◌, ℕ, ◌+◌, Bool, true, false, eqb, ◌==◌, List, [], ◌∷◌, ◌++◌, Option, None, Ok, Err, Result, inr, refl, sym, ap, ◌∙◌, subst}
 use mathlib.Core.Path.{fun_ext}
 use Rattle.contents.specs.Blocks.{Blocks, bits_in, blocks_of, page_in}
 use Rattle.contents.specs.Test.{is_good}

@@ -1,11 +1,8 @@
-use Rattle.std.proofs.Common.{◌≡◌, ℕ, suc, ◌+◌, ◌-◌, ◌<◌, List, Option, Some, None, Ok, Err, Result, sym, ap, subst, ◌∙◌, add-one, rules, arith}
-use Rattle.contents.specs.Blocks.{Blocks, blocks_of}
+use Rattle.std.proofs.Common.{◌≡◌, ◌<◌, Ok, Err, ap, ◌∙◌, rules, arith}
+use Rattle.contents.specs.Blocks.{blocks_of}
 use Rattle.database.proofs.Database.search.Goals as goal
 use Rattle.database.proofs.Steps.{page_found, page_on, visit_found, visit_keeps, visit_on, visit_refused}
-use Rattle.database.specs.declared.Stepped.{Stepped}
 use Rattle.database.specs.declared.Stepped.TheVariants.{Pair}
-use Rattle.devices.specs.Trace.{Did, Trace}
-use Rattle.faults.specs.declared.Fault.{Fault}
 
 pub returns-in_err-pair-clause-made : goal.returns-in_err-pair-clause-made
 returns-in_err-pair-clause-made g c =

@@ -1,5 +1,5 @@
-use Rattle.std.proofs.Common.{◌≡◌, ℕ, ◌+◌, ◌==◌, cond, List, [], ◌∷◌, ◌++◌, Option, None, Ok, Err, Result, refl, sym, ap, subst, ◌∙◌, rules, arith}
-use Rattle.contents.specs.Blocks.{Blocks, bits_in, blocks_of, page_in}
+use Rattle.std.proofs.Common.{◌≡◌, ℕ, ◌+◌, ◌==◌, cond, List, [], ◌∷◌, Option, None, Ok, Err, Result, refl, sym, ap, subst, ◌∙◌, rules}
+use Rattle.contents.specs.Blocks.{blocks_of, page_in}
 use Rattle.contents.specs.Test.{is_good}
 use Rattle.database.proofs.Database.visit.Goals as goal
 use Rattle.database.proofs.Visits.{at_other, at_page, first_is_home, here_bad, here_calls, here_good, here_page, past_calls, past_none, past_page, read_page, read_then}
@@ -7,14 +7,11 @@ use Rattle.database.specs.Step.{Shows, first_home, reachable, visit_calls, visit
 use Rattle.devices.proofs.Traces.{trace_stop, trace_then}
 use Rattle.devices.specs.Step.{Call}
 use Rattle.devices.specs.Trace.{Did, Trace}
-use Rattle.directory.specs.Ending.{leaf_of}
 use Rattle.directory.specs.Tree.{low}
-use Rattle.directory.specs.declared.Leaf.{Leaf}
 use Rattle.faults.specs.declared.Fault.{Fault}
 use Rattle.keys.specs.Hash.{hash}
-use Rattle.lookup.proofs.Reading.{answer_is, filled_shown, own_answer, read_refused, reads_keep}
-use Rattle.lookup.specs.Reads.{lookup_calls, lookup_reads, reads}
-use Rattle.pages.specs.Blank.{bytes_of}
+use Rattle.lookup.proofs.Reading.{answer_is, own_answer, read_refused}
+use Rattle.lookup.specs.Reads.{lookup_calls, reads}
 
 pub returns-in_err-leaf-clause-made : goal.returns-in_err-leaf-clause-made
 returns-in_err-leaf-clause-made g c =

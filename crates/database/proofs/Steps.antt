@@ -1,5 +1,5 @@
 -- A visit and the visits after it.
-use Rattle.std.proofs.Common.{◌≡◌, ℕ, suc, ◌+◌, ◌-◌, ◌<◌, ◌==◌, cond, List, [], ◌∷◌, ◌++◌, Option, Some, None, Ok, Err, OnOk, Result, inl, inr, refl, sym, ap, ap₂, ◌∙◌, subst, ⊎_elim, add-one, arith}
+use Rattle.std.proofs.Common.{◌≡◌, ℕ, suc, ◌+◌, ◌-◌, ◌<◌, ◌==◌, Bool, true, false, cond, List, [], ◌∷◌, ◌++◌, Option, Some, None, Ok, Err, OnOk, Result, inl, inr, refl, sym, ap, ap₂, ◌∙◌, subst, ⊎_elim, add-one, arith}
 use Rattle.contents.specs.Blocks.{Blocks, bits_in, blocks_of}
 use Rattle.contents.specs.Contents.{Position}
 use Rattle.database.specs.Step.{Shows, calls_from, last_page, onward, page_from, reachable, step_calls, step_from, stepped, visit_calls, visited}
@@ -15,7 +15,7 @@ use Rattle.faults.specs.declared.Refusal.TheVariants.{NotABlock}
 use Rattle.lookup.proofs.Reading.{own_answer, reads_append, reads_keep}
 use Rattle.lookup.specs.Made.{Made}
 use Rattle.lookup.specs.Reads.{lookup_reads, reads}
-use Rattle.std.proofs.lemmas.Bool.{cond-false, cond-true, cond_both, eq-eqb, ne_eqb}
+use Rattle.std.proofs.lemmas.Bool.{cond-false, cond-true, eq-eqb, ne_eqb}
 
 -- the calls, the answer and the page of a step, by what the first visit finds
 abbrev calls_after : List Call → List Call → Result (Option Shows) Fault → List Call
@@ -27,29 +27,30 @@ answer_after own v = onward v (λ s. Ok (Pair s)) (λ f. Err f) own
 abbrev page_after : List ℕ → List ℕ → List ℕ → Result (Option Shows) Fault → List ℕ
 page_after page old rest v = onward v (λ _. page) (λ _. old) rest
 
-module _ {S : Type 0} (did : S → Call → Result Unit Fault → S → Type 0) (cs ds : List Call) (own : Result Stepped Fault) where
+module _ {S : Type 0} (did : S → Call → Result Unit Fault → S → Type 0) where
   -- a refusal is that of a call, or the answer of the visit
   refused_last : {X Y : Type 0} (cs : List Call) (d e : S) (own : Result X Fault) (last : Result Y Fault) (f g : Fault) → own ≡ Err g → last ≡ Err g → Trace did d cs own (Err f) e
       → Trace did d (cs ++ []) last (Err f) e
   refused_last [] d e own last f g is to t = let same : f ≡ g = cc in (ap Err same ∙ sym to, t.1)
   refused_last (c ∷ cs) d e own last f g is to t = ⊎_elim inl (λ u. inr (u.0, u.1, refused_last cs u.0 e own last f g is to u.2)) t
 
-  refused : (v : Result (Option Shows) Fault) (d e : S) (f : Fault) → Trace did d cs v (Err f) e → Trace did d (calls_after cs ds v) (answer_after own v) (Err f) e
-  refused (Ok None) d e f t = trace_stop did cs ds d e _ own f t
-  refused (Ok (Some s)) d e f t = trace_stop did cs [] d e _ (Ok (Pair s)) f t
-  refused (Err g) d e f t = refused_last cs d e (Err g) (Err g) f g refl refl t
+  refused : (cs ds : List Call) (own : Result Stepped Fault) (v : Result (Option Shows) Fault) (d e : S) (f : Fault) → Trace did d cs v (Err f) e
+      → Trace did d (calls_after cs ds v) (answer_after own v) (Err f) e
+  refused cs ds own (Ok None) d e f t = trace_stop did cs ds d e _ own f t
+  refused cs ds own (Ok (Some s)) d e f t = trace_stop did cs [] d e _ (Ok (Pair s)) f t
+  refused cs ds own (Err g) d e f t = refused_last cs d e (Err g) (Err g) f g refl refl t
 
--- a visit reads, and so leaves the blocks
-visit_reads : (blocks : Blocks) (p : ℕ) → visit_calls blocks p ≡ reads (lookup_reads (bits_in blocks) p ++ cond (reachable blocks p) ((4 + p) ∷ []) [])
+-- a visit only reads
+reads_where : (b : Bool) (ns : List ℕ) → reads (cond b ns []) ≡ cond b (reads ns) []
+reads_where true ns = refl
+reads_where false ns = refl
+
+visit_reads : (blocks : Blocks) (p : ℕ) → reads (lookup_reads (bits_in blocks) p ++ cond (reachable blocks p) ((4 + p) ∷ []) []) ≡ visit_calls blocks p
 visit_reads blocks p =
     let ns = lookup_reads (bits_in blocks) p in
-    ap (λ (cs : List Call). reads ns ++ cs)
-    (cond_both (reachable blocks p) (reads ((4 + p) ∷ [])) [] (λ cs. cs ≡ reads (cond (reachable blocks p) ((4 + p) ∷ []) []))
-    (λ t. sym (ap reads (cond-true (reachable blocks p) ((4 + p) ∷ []) [] t)))
-    (λ f. sym (ap reads (cond-false (reachable blocks p) ((4 + p) ∷ []) [] f))))
-    ∙ sym (reads_append ns (cond (reachable blocks p) ((4 + p) ∷ []) []))
+    reads_append ns (cond (reachable blocks p) ((4 + p) ∷ []) []) ∙ ap (λ (cs : List Call). reads ns ++ cs) (reads_where (reachable blocks p) ((4 + p) ∷ []))
 
--- A visit of page p from number n on, at a state d whose blocks are these, with 32,768 - p visits to go.
+-- a visit of page p from number n on, at a state d that has the blocks of the entry, and the visits of the pages after it
 module _ {S : Type 0} (steps : Account S) (M : S → Meaning) (blocks : Blocks) (p n : ℕ) (d m : S) (v : Result (Option Shows) Fault) (l : p < 32768) (same : blocks_of (M d) ≡ blocks)
     (made : Made steps M d (λ b. visit_calls b p) (λ b. visited b p n) v m) where
   abbrev did : S → Call → Result Unit Fault → S → Type 0
@@ -61,16 +62,16 @@ module _ {S : Type 0} (steps : Account S) (M : S → Meaning) (blocks : Blocks) 
   more : 32768 - p ≡ suc k
   more = omega arith
 
-  visit : Trace did d (visit_calls blocks p) (visited blocks p n) v m
-  visit = subst (λ (b : Blocks). Trace did d (visit_calls b p) (visited b p n) v m) same made
+  visit : (r : Result (Option Shows) Fault) → v ≡ r → Trace did d (visit_calls blocks p) (visited blocks p n) r m
+  visit r is =
+      subst (λ (w : Result (Option Shows) Fault). Trace did d (visit_calls blocks p) (visited blocks p n) w m) is
+      (subst (λ (b : Blocks). Trace did d (visit_calls b p) (visited b p n) v m) same made)
 
   own : (o : Option Shows) → v ≡ Ok o → Ok o ≡ visited blocks p n
-  own o is = own_answer did (visit_calls blocks p) d m o (visited blocks p n) (subst (λ (r : Result (Option Shows) Fault). Trace did d (visit_calls blocks p) (visited blocks p n) r m) is visit)
+  own o is = own_answer did (visit_calls blocks p) d m o (visited blocks p n) (visit (Ok o) is)
 
   accepted : (o : Option Shows) → v ≡ Ok o → Trace did d (visit_calls blocks p) (Ok o) (Ok o) m
-  accepted o is =
-      subst (λ (r : Result (Option Shows) Fault). Trace did d (visit_calls blocks p) r (Ok o) m) (sym (own o is))
-      (subst (λ (r : Result (Option Shows) Fault). Trace did d (visit_calls blocks p) (visited blocks p n) r m) is visit)
+  accepted o is = subst (λ (w : Result (Option Shows) Fault). Trace did d (visit_calls blocks p) w (Ok o) m) (sym (own o is)) (visit (Ok o) is)
 
   -- the calls and the answer from page p on
   abbrev calls : Result (Option Shows) Fault → List Call
@@ -89,8 +90,7 @@ module _ {S : Type 0} (steps : Account S) (M : S → Meaning) (blocks : Blocks) 
   visit_refused f r is at =
       subst (λ (j : ℕ). Trace did d (calls_from blocks j p n) (step_from blocks j p n) r m) (sym more)
       (subst (λ (r : Result Stepped Fault). Trace did d (calls (visited blocks p n)) (answer (visited blocks p n)) r m) (sym at)
-      (refused did (visit_calls blocks p) (calls_from blocks k (suc p) 0) (step_from blocks k (suc p) 0) (visited blocks p n) d m f
-      (subst (λ (r : Result (Option Shows) Fault). Trace did d (visit_calls blocks p) (visited blocks p n) r m) is visit)))
+      (refused did (visit_calls blocks p) (calls_from blocks k (suc p) 0) (step_from blocks k (suc p) 0) (visited blocks p n) d m f (visit (Err f) is)))
 
   pub visit_found : (s : Shows) → v ≡ Ok (Some s) → Trace did d (calls_from blocks (32768 - p) p n) (step_from blocks (32768 - p) p n) (Ok (Pair s)) m
   visit_found s is =
@@ -106,7 +106,7 @@ module _ {S : Type 0} (steps : Account S) (M : S → Meaning) (blocks : Blocks) 
   pub visit_keeps : blocks_of (M m) ≡ blocks
   visit_keeps =
       reads_keep steps M (lookup_reads (bits_in blocks) p ++ cond (reachable blocks p) ((4 + p) ∷ []) []) d m (visited blocks p n) v
-      (subst (λ (cs : List Call). Trace did d cs (visited blocks p n) v m) (visit_reads blocks p) visit)
+      (subst (λ (cs : List Call). Trace did d cs (visited blocks p n) v m) (sym (visit_reads blocks p)) (visit v refl))
       ∙ same
 
   module _ (old new : List ℕ) (filled : OnOk v (new ≡ last_page (blocks_of (M d)) p old)) where

@@ -20,6 +20,7 @@ use Rattle.lookup.specs.Pages.{bad_page}
 use Rattle.lookup.specs.Reads.{lookup_calls, lookup_reads, reads}
 use Rattle.std.proofs.lemmas.Bool.{cond-false, cond-true, eq-eqb, ne_eqb}
 
+-- the leaf at which the lookup of a page's number ends
 module _ (blocks : Blocks) (p : ℕ) (leaf : Leaf) (found : leaf ≡ leaf_of (bits_in blocks) p) where
   page_is : leaf.page ≡ page_of (bits_in blocks) p
   page_is = ap (λ (l : Leaf). l.page) found
@@ -40,6 +41,7 @@ module _ (blocks : Blocks) (p : ℕ) (leaf : Leaf) (found : leaf ≡ leaf_of (bi
       ap (λ (test : List ℕ → Bool). first_home test page leaf.page n) (fun_ext same)
       ∙ ap (λ (q : ℕ). first_home (λ key. home_page blocks key == p) page q n) at
 
+-- a page at which a lookup ends, and one at which none does
 module _ (blocks : Blocks) (p : ℕ) (here : reachable blocks p ≡ true) where
   pub here_calls : visit_calls blocks p ≡ lookup_calls blocks p ++ reads ((4 + p) ∷ [])
   here_calls = ap (λ (cs : List Call). lookup_calls blocks p ++ cs) (cond-true (reachable blocks p) (reads ((4 + p) ∷ [])) [] here)

@@ -30,7 +30,7 @@ VisitShows c p n (Ok None) page = remaining c (p, n) ≡ remaining c (suc p, 0)
 VisitShows c p n (Ok (Some s)) page = remaining c (p, n) ≡ (bytes_at page s.0, bytes_at page s.1) ∷ remaining c s.2
 VisitShows c p n (Err f) page = ⊤
 
--- a page that was visited, and the answer of the visits after it
+-- the answer of a visit, or of the visits after it
 module _ (c : Contents) (p n : ℕ) where
   onward_shows : (v : Result (Option Shows) Fault) (own : Result Stepped Fault) (page old rest : List ℕ) → VisitShows c p n v page → ShowsNext c (suc p, 0) own rest
       → ShowsNext c (p, n) (onward v (λ s. Ok (Pair s)) (λ f. Err f) own) (onward v (λ _. page) (λ _. old) rest)
@@ -40,10 +40,7 @@ module _ (c : Contents) (p n : ℕ) where
   onward_shows (Ok (Some s)) own page old rest here later = here
   onward_shows (Err f) own page old rest here later = tt
 
--- pair i of a list is at home on page p
-abbrev AtHomeIn : List Pairs → (ℕ → Bool) → ℕ → ℕ → Type 0
-AtHomeIn ps bits p i = (i < length ps) × (page_of bits (hash (get_or ps i none).0) ≡ p)
-
+-- a page as the contents have it
 module _ (blocks : Blocks) (p : ℕ) (l : p < 32768) where
   abbrev c : Contents
   c = contents_of blocks

@@ -1,11 +1,11 @@
 use Rattle.std.proofs.Common.{◌≡◌, ℕ, List, length, Ok, Err, Option, sym, ap, subst, ◌∙◌, rules, refl}
 use Rattle.contents.specs.Contents.{contents_of}
 use Rattle.contents.specs.Blocks.{blocks_of}
-use Rattle.database.proofs.Fetches.{home_good, place_there, found_within, record_shown, none_shown, record_decoded, decoding_some, decoding_refused}
+use Rattle.database.proofs.Fetches.{comes_back, home_good, place_there, found_within, record_shown, none_shown, record_decoded, decoding_some, decoding_refused}
 use Rattle.database.proofs.Database.get.Goals as goal
 use Rattle.database.proofs.Database.get.Goals.{in-Some+in_ok-record_at-in-Some, in-None}
-use Rattle.database.specs.Fetch.{fetch_calls, found, got, decoding, home_bytes, record_at}
-use Rattle.database.specs.Shown.{ShowsRecord}
+use Rattle.calls.specs.Fetch.{fetch_calls, found, got, decoding, home_bytes, record_at}
+use Rattle.calls.specs.Shown.{ShowsRecord}
 use Rattle.devices.specs.Trace.{Did, Trace}
 use Rattle.lookup.proofs.Reading.{mapped, own_answer}
 use Rattle.pages.specs.Read.{Found, Place}
@@ -107,3 +107,15 @@ returns-clause-shows g c =
     | in-None w ↦
         subst (λ r. ShowsRecord decoded (contents_of blocks) key (Ok r)) (sym w.record-is) (none_shown decoded blocks key good (subst (Found page key) w.in-None.is there))
     ]
+
+pub returns-in_err-home-clause-back : goal.returns-in_err-home-clause-back
+returns-in_err-home-clause-back g c =
+    λ x fits h long whole. comes_back g.R.Record.decoded g.R.Record.code x (g.met.R.Record.back x fits) (blocks_of (g.D.Device.meaning c.args.self.now.device)) c.args.key.now h long _ whole
+
+pub returns-in_err-record_at-in-Some-clause-back : goal.returns-in_err-record_at-in-Some-clause-back
+returns-in_err-record_at-in-Some-clause-back g c =
+    λ x fits h long whole. comes_back g.R.Record.decoded g.R.Record.code x (g.met.R.Record.back x fits) (blocks_of (g.D.Device.meaning c.args.self.now.device)) c.args.key.now h long _ whole
+
+pub returns-clause-back : goal.returns-clause-back
+returns-clause-back g c =
+    λ x fits h long whole. comes_back g.R.Record.decoded g.R.Record.code x (g.met.R.Record.back x fits) (blocks_of (g.D.Device.meaning c.args.self.now.device)) c.args.key.now h long _ whole

@@ -3,7 +3,7 @@ use Rattle.contents.specs.Blocks.{blocks_of, page_in}
 use Rattle.contents.specs.Test.{is_good}
 use Rattle.database.proofs.Database.visit.Goals as goal
 use Rattle.database.proofs.Visits.{at_other, at_page, first_is_home, here_bad, here_calls, here_good, here_page, past_calls, past_none, past_page, read_page, read_then}
-use Rattle.database.specs.Step.{Shows, first_home, reachable, visit_calls, visited}
+use Rattle.calls.specs.Step.{Shows, first_home, reachable, visit_calls, visited}
 use Rattle.devices.proofs.Traces.{trace_stop, trace_then}
 use Rattle.devices.specs.Step.{Call}
 use Rattle.devices.specs.Trace.{Did, Trace}

@@ -3,3 +3,6 @@ pub mod Finds
 pub mod Visits
 pub mod Steps
 pub mod Walks
+pub mod Unders
+pub mod Halves
+pub mod Marks

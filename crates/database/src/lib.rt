@@ -1,7 +1,9 @@
 // The database over any stack of devices: a directory in blocks 0 to 3, and page p in block 4 + p.
 #![tactic(auto)]
 
+mod checking;
 mod fetching;
+mod splitting;
 mod walking;
 
 ghost use Rattle.std.specs.Prelude.{◌≡◌, Ok, [], ◌∷◌};

@@ -1,7 +1,7 @@
 ghost use Rattle.std.specs.Prelude.{◌≡◌, ◌+◌, ◌<◌, ◌≤◌, ◌/◌, ◌∷◌, [], length, Some, Ok, Err};
 ghost use Rattle.calls.specs.Delete.{home_depth};
 ghost use Rattle.calls.specs.Fetch.{home_bytes};
-ghost use Rattle.calls.specs.Store.{bits_clear, change_calls, decided, last_write, room_calls, store_calls, stored, with_pair_input};
+ghost use Rattle.calls.specs.Store.{bits_clear, change_calls, decided, last_write, room_calls, slot, store_calls, stored, with_pair_input};
 ghost use Rattle.calls.specs.declared.Mode.TheVariants.{Replace};
 ghost use Rattle.contents.specs.Blocks.{bits_in, blocks_of};
 ghost use Rattle.devices.specs.Trace.{Did, Trace};
@@ -16,7 +16,7 @@ ghost use Rattle.splits.specs.Plan.{plan};
 ghost use Rattle.splits.specs.Writes.{others};
 
 use crate::Database;
-use crate::checking::{BITS, check_under};
+use crate::checking::{BITS, DirectoryBlocks, check_under};
 use crate::splitting::{claim_all, split_all};
 use calls::Mode;
 use devices::{BLOCK, Device};
@@ -98,8 +98,7 @@ impl<D: Device> Database<D> {
         if splits == 0 {
             return self.device.claim(DIRECTORY_BLOCKS + way.leaf().page);
         }
-        let mut blocks = [[0; BLOCK]; 4];
-        blocks[(way.leaf().index / BITS) as usize] = *directory;
+        let mut blocks = in_slot(way.leaf().index / BITS, directory);
         check_under(&mut self.device, way, splits, &mut blocks)?;
         claim_all(&mut self.device, way, splits)?;
         split_all(&mut self.device, page, way, splits, &mut blocks)
@@ -135,6 +134,16 @@ fn decide(
         return Err(Layer::Database.fault(Refusal::KeyExists, home));
     }
     plan(page, leaf, key, value).ok_or(Layer::Database.fault(Refusal::NoPlan, home))
+}
+
+// Room for the directory's blocks, with block n in its slot.
+fn in_slot(n: u32, block: &[u8; BLOCK]) -> DirectoryBlocks
+    requires { n < 4 }
+    ensures { slot result n ≡ block.now }
+{
+    let mut blocks = [[0; BLOCK]; 4];
+    blocks[n as usize] = *block;
+    blocks
 }
 
 // The way of a hash down to a depth.

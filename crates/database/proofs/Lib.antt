@@ -6,3 +6,4 @@ pub mod Walks
 pub mod Unders
 pub mod Halves
 pub mod Marks
+pub mod Deletes

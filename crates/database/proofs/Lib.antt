@@ -7,3 +7,4 @@ pub mod Unders
 pub mod Halves
 pub mod Marks
 pub mod Rooms
+pub mod Deletes

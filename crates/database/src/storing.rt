@@ -119,13 +119,7 @@ fn check_pair(key: &[u8], value: &[u8]) -> Result<(), Fault>
 }
 
 // How many splits the store makes, by what stands on its home page, and what it refuses by that.
-fn decide(
-    page: &PairPage,
-    leaf: &Leaf,
-    key: &[u8],
-    value: &[u8],
-    mode: Mode,
-) -> Result<u32, Fault>
+fn decide(page: &PairPage, leaf: &Leaf, key: &[u8], value: &[u8], mode: Mode) -> Result<u32, Fault>
     requires { leaf.now.page < 32768 }
     ensures { result ≡ decided (bytes_of page.now.good) leaf.now.depth (4 + leaf.now.page) key.now value.now mode }
 {

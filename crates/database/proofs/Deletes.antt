@@ -23,7 +23,7 @@ use Rattle.page_edits.specs.Edit.{dropped, falling}
 use Rattle.page_edits.specs.Write.{written}
 use Rattle.pages.proofs.Held.{good_in}
 use Rattle.pages.specs.Blank.{bytes_of}
-use Rattle.pages.specs.Page.{Pair, pairs_of}
+use Rattle.pages.specs.Page.{pairs_of}
 use Rattle.pages.specs.Read.{Found, Place}
 use Rattle.pages.specs.declared.page.PairPage.{PairPage}
 use Rattle.std.proofs.lemmas.Bool.{cond-false, cond-true}

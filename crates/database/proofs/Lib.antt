@@ -7,4 +7,5 @@ pub mod Unders
 pub mod Halves
 pub mod Marks
 pub mod Rooms
+pub mod Stored
 pub mod Deletes

@@ -1,4 +1,4 @@
-use Rattle.std.proofs.Common.{◌≡◌, Bool, not, Err, Result, sym, ap, subst, ◌∙◌, rules, arith}
+use Rattle.std.proofs.Common.{◌≡◌, not, Err, sym, ap, subst, ◌∙◌, rules, arith}
 use Rattle.calls.specs.Delete.{delete_calls, deleted}
 use Rattle.contents.specs.Blocks.{blocks_of}
 use Rattle.database.proofs.Database.delete.Goals as goal

@@ -6,3 +6,6 @@ pub mod Walks
 pub mod Unders
 pub mod Halves
 pub mod Marks
+pub mod Rooms
+pub mod Stored
+pub mod Deletes

@@ -2,8 +2,10 @@
 #![tactic(auto)]
 
 mod checking;
+mod deleting;
 mod fetching;
 mod splitting;
+mod storing;
 mod walking;
 
 ghost use Rattle.std.specs.Prelude.{◌≡◌, Ok, [], ◌∷◌};

@@ -27,7 +27,7 @@ HoldsExactly = (pairs : List Pair) (d : Meaning) → Holding pairs d → Exactly
 
 -- what calls are answered is by the rules of the device
 abbrev pub AnsweredByRule : Type 0 → Type 0
-AnsweredByRule X = (cs : List Call) (d e : Meaning) (own r : Result X Fault) → Lawful d → Trace Step d cs own r e → ByRule d cs own r e
+AnsweredByRule X = (cs : List Call) (d e : Meaning) (own r : Result X Fault) → Trace Step d cs own r e → ByRule d cs own r e
 
 -- reads and a flush change no pair, and after a flush that was accepted the backing blocks alone hold the same pairs
 abbrev pub ReadsKeep : Type 0 → Type 0

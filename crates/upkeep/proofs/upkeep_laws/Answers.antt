@@ -1,0 +1,32 @@
+use Rattle.std.specs.Prelude.{Bool}
+use Rattle.upkeep.proofs.Rules.{by_rule}
+use Rattle.upkeep.proofs.Marks
+use Rattle.upkeep.proofs.Quiet
+use Rattle.upkeep.proofs.upkeep_laws.Goals as goal
+
+pub returns-clause-blank : goal.returns-clause-blank
+returns-clause-blank c = ?
+
+pub returns-clause-exactly : goal.returns-clause-exactly
+returns-clause-exactly c = ?
+
+pub returns-clause-rule : goal.returns-clause-rule
+returns-clause-rule c = (by_rule, by_rule)
+
+pub returns-clause-reads : goal.returns-clause-reads
+returns-clause-reads c = ?
+
+pub returns-clause-flush : goal.returns-clause-flush
+returns-clause-flush c = ?
+
+pub returns-clause-store : goal.returns-clause-store
+returns-clause-store c = ?
+
+pub returns-clause-delete : goal.returns-clause-delete
+returns-clause-delete c = ?
+
+pub returns-clause-store_never : goal.returns-clause-store_never
+returns-clause-store_never c = ?
+
+pub returns-clause-delete_never : goal.returns-clause-delete_never
+returns-clause-delete_never c = ?

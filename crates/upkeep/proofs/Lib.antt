@@ -1,3 +1,4 @@
 pub mod Rules
 pub mod Quiet
+pub mod Holds
 pub mod Marks

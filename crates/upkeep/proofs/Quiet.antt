@@ -39,7 +39,7 @@ module _ (d e : Meaning) (limit : e.limit ≡ d.limit) (block : e.block ≡ d.bl
       ap {B = ℕ → List ℕ} (λ (l : ℕ). λ (n : ℕ). cond (ltb n l) (e.block n) (replicate 1024 0)) limit
       ∙ ap {B = ℕ → List ℕ} (λ (b : ℕ → List ℕ). λ (n : ℕ). cond (ltb n d.limit) (b n) (replicate 1024 0)) block
 
-  quiet_from : e.spent ≡ d.spent → ((n : ℕ) → d.held n ≡ true → e.held n ≡ true) → ((n : ℕ) → e.held n ≡ true → (d.held n ≡ true) ⊎ (n < d.limit)) → Quiet d e
+  pub quiet_from : e.spent ≡ d.spent → ((n : ℕ) → d.held n ≡ true → e.held n ≡ true) → ((n : ℕ) → e.held n ≡ true → (d.held n ≡ true) ⊎ (n < d.limit)) → Quiet d e
   quiet_from spent more inside = record {
     blocks = blocks_same;
     lawful = λ l. record {

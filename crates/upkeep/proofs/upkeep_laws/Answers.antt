@@ -1,23 +1,23 @@
 use Rattle.std.specs.Prelude.{Bool}
+use Rattle.upkeep.proofs.Holds.{blank_holds, flush_keeps, holds_exactly, reads_keep}
 use Rattle.upkeep.proofs.Rules.{by_rule}
 use Rattle.upkeep.proofs.Marks
-use Rattle.upkeep.proofs.Quiet
 use Rattle.upkeep.proofs.upkeep_laws.Goals as goal
 
 pub returns-clause-blank : goal.returns-clause-blank
-returns-clause-blank c = ?
+returns-clause-blank c = blank_holds
 
 pub returns-clause-exactly : goal.returns-clause-exactly
-returns-clause-exactly c = ?
+returns-clause-exactly c = holds_exactly
 
 pub returns-clause-rule : goal.returns-clause-rule
 returns-clause-rule c = (by_rule, by_rule)
 
 pub returns-clause-reads : goal.returns-clause-reads
-returns-clause-reads c = ?
+returns-clause-reads c = (reads_keep, reads_keep)
 
 pub returns-clause-flush : goal.returns-clause-flush
-returns-clause-flush c = ?
+returns-clause-flush c = flush_keeps
 
 pub returns-clause-store : goal.returns-clause-store
 returns-clause-store c = ?

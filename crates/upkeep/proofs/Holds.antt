@@ -21,6 +21,7 @@ use Rattle.splits.specs.Laws.{Sound}
 use Rattle.std.proofs.lemmas.Bool.{cond_both}
 use Rattle.std.specs.List.{range_with_len}
 use Rattle.upkeep.proofs.Quiet.{Quiet, quiet_from, quiet_kept, quiet_reads, quiet_trace}
+use Rattle.upkeep.proofs.Writes.{Sane}
 use Rattle.upkeep.specs.Holding.{Holding, backing_of}
 use Rattle.upkeep.specs.Laws.{BlankHolds, FlushKeeps, HoldsExactly, ReadsKeep}
 
@@ -35,6 +36,20 @@ holding_quiet pairs d e h q = record {
   held = subst (λ (b : Blocks). (key : List ℕ) → held (contents_of b) key ≡ look key pairs) (sym q.blocks) h.held;
   differ = h.differ;
 }
+
+-- a device that holds the same contents
+pub holding_same : (pairs : List Pair) (d e : Meaning) → Holding pairs d → Sane e → contents_of (blocks_of e) ≡ contents_of (blocks_of d) → Holding pairs e
+holding_same pairs d e h s same = record {
+  device = s.device;
+  unclaimed = s.unclaimed;
+  sound = subst Sound (sym same) h.sound;
+  good = s.good;
+  held = λ key. ap (λ (c : Contents). held c key) same ∙ h.held key;
+  differ = h.differ;
+}
+
+pub sane : (pairs : List Pair) (d : Meaning) → Holding pairs d → Sane d
+sane pairs d h = record { device = h.device; unclaimed = h.unclaimed; good = h.good }
 
 pub reads_keep : {X : Type 0} → ReadsKeep X
 reads_keep pairs ns d e own r h t = holding_quiet pairs d e h (quiet_trace (reads ns) d e own r (quiet_reads ns) t)

@@ -3,3 +3,7 @@ pub mod Quiet
 pub mod Holds
 pub mod Marks
 pub mod Writes
+pub mod Homes
+pub mod Traces
+pub mod Outcomes
+pub mod Deletes

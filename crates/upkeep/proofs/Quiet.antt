@@ -1,14 +1,15 @@
 -- Calls that write nothing: what they leave, and how they are not refused.
-use Rattle.std.proofs.Common.{◌≡◌, ◌⊎◌, ℕ, ◌-◌, ◌<◌, ◌≤◌, Bool, true, false, eqb, List, [], ◌∷◌, ◌++◌, length, replicate, map, cond, ltb, Ok, Err, Result, inl, inr, refl, sym, ap, ◌∙◌, subst, ⊎_elim, arith}
-use Rattle.contents.specs.Blocks.{blocks_of}
+use Rattle.std.proofs.Common.{◌≡◌, ◌⊎◌, ℕ, ◌+◌, ◌-◌, ◌<◌, ◌≤◌, Bool, true, false, eqb, List, [], ◌∷◌, ◌++◌, length, replicate, map, cond, ltb, Ok, Err, Result, inl, inr, refl, sym, ap, ◌∙◌, subst, ⊎_elim, arith}
+use Rattle.contents.specs.Blocks.{Blocks, bits_in, blocks_of}
 use Rattle.devices.specs.Meaning.{Meaning, Zeroed, put, Sound as Lawful}
 use Rattle.devices.specs.Step.{Call, Claimed, Failed, Kept, Step, claim, flush, read, write}
 use Rattle.devices.specs.Trace.{Trace}
+use Rattle.directory.specs.Tree.{page_of}
 use Rattle.faults.specs.Numbers.{refusal_number}
 use Rattle.faults.specs.declared.Fault.{Fault}
 use Rattle.faults.specs.declared.Refusal.{Refusal}
 use Rattle.faults.specs.declared.Refusal.TheVariants.{DeviceFailed, NoClaim, NotABlock, PastLimit}
-use Rattle.lookup.specs.Reads.{reads}
+use Rattle.lookup.specs.Reads.{home_calls, lookup_calls, lookup_reads, reads}
 use Rattle.splits.proofs.Splits.{put_here, put_other}
 use Rattle.std.proofs.lemmas.Bool.{both_ways, cases_Bool, cases_eq, cases_lt, cond_both, false_from_ne_true}
 use Rattle.upkeep.specs.Laws.{Never}
@@ -181,3 +182,8 @@ quiet_never (c ∷ cs) d e own (Err f) q l n t =
 pub never_accepted : {X : Type 0} (cs : List Call) (d e : Meaning) (f : Fault) (x : X) → Trace Step d cs (Err f) (Ok x) e → ⊥
 never_accepted [] d e f x t = let q = t.0 in let z : ◌≡◌ {A = ℕ} 0 1 = cc in omega arith
 never_accepted (c ∷ cs) d e f x t = never_accepted cs t.0 e f x t.2
+
+pub home_quiet : (blocks : Blocks) (h : ℕ) → AllQuiet (home_calls blocks h)
+home_quiet blocks h =
+    let page = (4 + page_of (bits_in blocks) h) ∷ [] in
+    quiet_append (lookup_calls blocks h) (reads page) (quiet_reads (lookup_reads (bits_in blocks) h)) (quiet_reads page)

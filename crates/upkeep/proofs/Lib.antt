@@ -7,3 +7,4 @@ pub mod Homes
 pub mod Traces
 pub mod Outcomes
 pub mod Deletes
+pub mod Flats

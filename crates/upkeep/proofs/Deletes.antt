@@ -124,16 +124,15 @@ module _ (pairs : List Pair) (key : List ℕ) where
     by_there : (there : Bool) → has_key blocks key ≡ there → Answers (home_calls blocks (hash key) ++ cond there (delete_write blocks key ∷ []) []) (Ok there) → Fine r e
     by_there true is t =
         before pairs after (λ f. refl) d e h (home_calls blocks (hash key)) (delete_write blocks key ∷ []) (Ok true) r (home_quiet blocks (hash key)) t
-        (λ m u v.
-        let q = quiet_trace {X = Unit} (home_calls blocks (hash key)) d m (Ok tt) (Ok tt) (home_quiet blocks (hash key)) u in
-        write_fine m (holding_quiet pairs d m h q) e r (subst (λ (b : Blocks). has_key b key ≡ true) (sym q.blocks) is)
+        (λ m k q u v.
+        write_fine m k e r (subst (λ (b : Blocks). has_key b key ≡ true) (sym q.blocks) is)
         (subst (λ (b : Blocks). Trace Step m (delete_write b key ∷ []) (Ok true) r e) (sym q.blocks) v))
     by_there false is t =
         let hs = home_calls blocks (hash key) in
         let quiet = quiet_append hs [] (home_quiet blocks (hash key)) tt in
         let kept = holding_quiet pairs d e h (quiet_trace (hs ++ []) d e (Ok false) r quiet t) in
         before pairs after (λ f. refl) d e h hs [] (Ok false) r (home_quiet blocks (hash key)) t
-        (λ m u v. subst (λ (a : Result Bool Fault). Fine a e) (sym v.0) (subst (λ (ps : List Pair). Holding ps e) (sym (absent d h is)) kept, tt))
+        (λ m k q u v. subst (λ (a : Result Bool Fault). Fine a e) (sym v.0) (subst (λ (ps : List Pair). Holding ps e) (sym (absent d h is)) kept, tt))
 
     by_good : (good : Bool) → good ≡ true → Answers (home_calls blocks (hash key) ++ cond (good && has_key blocks key) (delete_write blocks key ∷ []) []) (cond good (Ok (has_key blocks key)) (Err (bad_page (4 + home_page blocks key)))) → Fine r e
     by_good true is t = by_there (has_key blocks key) refl t

@@ -8,3 +8,4 @@ pub mod Traces
 pub mod Outcomes
 pub mod Deletes
 pub mod Flats
+pub mod Stores

@@ -32,7 +32,7 @@ module _ {X : Type 0} (pairs : List Pair) (after : Result X Fault → List Pair)
 
     -- calls that write nothing, before others
     pub before : (cs ds : List Call) (own r : Result X Fault) → AllQuiet cs → Trace Step d (cs ++ ds) own r e
-        → ((m : Meaning) → Trace {X = Unit} Step d cs (Ok tt) (Ok tt) m → Trace Step m ds own r e → Done r e)
+        → ((m : Meaning) → Holding pairs m → Quiet d m → Trace {X = Unit} Step d cs (Ok tt) (Ok tt) m → Trace Step m ds own r e → Done r e)
         → Done r e
     before cs ds own r q t go = by (parts Step cs ds d e own r t)
       where
@@ -40,7 +40,7 @@ module _ {X : Type 0} (pairs : List Pair) (after : Result X Fault → List Pair)
         by (stopped f is u) =
             subst (λ (a : Result X Fault). Done a e) (sym is)
             (done_refused e f (holding_quiet pairs d e h (quiet_trace {X = Unit} cs d e (Ok tt) (Err f) q u)) (quiet_never {X = Unit} cs d e (Ok tt) (Err f) q h.device tt u))
-        by (through m u v) = go m u v
+        by (through m u v) = let k = quiet_trace {X = Unit} cs d m (Ok tt) (Ok tt) q u in go m (holding_quiet pairs d m h k) k u v
 
     -- writes
     pub written : (ws : List Write) (r : Result X Fault) → Left ws d r e

@@ -1,10 +1,10 @@
 -- What a delete leaves of the pairs held, whatever it is answered.
-use Rattle.std.proofs.Common.{◌≡◌, ℕ, zero, suc, ◌+◌, ◌<◌, ◌≤◌, ◌&&◌, Bool, true, false, not, cond, eqb, ltb, List, [], ◌∷◌, ◌++◌, length, replicate, take, Option, Some, None, is_some, Ok, Err, Result, inl, refl, sym, ap, ◌∙◌, subst, ⊎_elim, append-nil, arith}
+use Rattle.std.proofs.Common.{◌≡◌, ℕ, ◌+◌, ◌<◌, ◌≤◌, ◌&&◌, Bool, true, false, not, cond, eqb, ltb, List, [], ◌∷◌, ◌++◌, length, replicate, take, Option, Some, None, is_some, Ok, Err, Result, inl, refl, sym, ap, ◌∙◌, subst, ⊎_elim, arith}
 use Rattle.calls.specs.Delete.{delete_calls, delete_write, deleted, has_key, home_depth, home_pairs}
 use Rattle.calls.specs.Fetch.{home_bytes, home_page}
 use Rattle.contents.proofs.Joins.{differ_filter}
 use Rattle.contents.proofs.Tests.{good_yes}
-use Rattle.contents.specs.Blocks.{Blocks, blocks_of, page_in}
+use Rattle.contents.specs.Blocks.{Blocks, blocks_of}
 use Rattle.contents.specs.Contents.{Contents, contents_of, held, home}
 use Rattle.contents.specs.Test.{is_good}
 use Rattle.devices.specs.Meaning.{Meaning, Zeroed}
@@ -20,19 +20,19 @@ use Rattle.lookup.specs.Pages.{bad_page}
 use Rattle.lookup.specs.Reads.{home_calls}
 use Rattle.page_edits.specs.Edit.{dropped}
 use Rattle.page_edits.specs.Write.{written}
-use Rattle.pages.specs.Page.{Good, Pair, look, pairs_of}
+use Rattle.pages.specs.Page.{Good, Pair, look}
 use Rattle.splits.proofs.Finds.{look_dropped}
 use Rattle.splits.proofs.Rooms.{fits_others}
 use Rattle.splits.proofs.Sounds.{deletes_sound}
 use Rattle.splits.proofs.Stores.{deletes}
 use Rattle.splits.specs.Laws.{Sound}
-use Rattle.splits.specs.Writes.{Write, all_made, deleting, depth_at, made, others, pairs_at}
+use Rattle.splits.specs.Writes.{all_made, deleting, depth_at, made, others, pairs_at}
 use Rattle.std.proofs.lemmas.Bool.{both_ways, cases_lt, cond-false, le-ltb, true_from_ne_false}
 use Rattle.upkeep.proofs.Holds.{blank_page, holding_quiet, holding_same, sane}
 use Rattle.upkeep.proofs.Homes.{depth_is, dropped_none, home_is, key_there, pairs_are}
-use Rattle.upkeep.proofs.Outcomes.{Done, before, refused, written as after_writes}
-use Rattle.upkeep.proofs.Quiet.{AllQuiet, home_quiet, quiet_append, quiet_trace, spared_at}
-use Rattle.upkeep.proofs.Writes.{AllHeld, AllMay, Left, Sane, number, write_calls, writes_leave}
+use Rattle.upkeep.proofs.Outcomes.{before, refused, written as after_writes}
+use Rattle.upkeep.proofs.Quiet.{home_quiet, quiet_append, quiet_trace, spared}
+use Rattle.upkeep.proofs.Writes.{AllMay, Sane, number, write_calls, writes_leave}
 use Rattle.upkeep.specs.Holding.{Holding}
 use Rattle.upkeep.specs.Laws.{DeleteKeeps, DeleteNever, Never, deleted_pairs}
 
@@ -121,7 +121,9 @@ module _ (pairs : List Pair) (key : List ℕ) where
     abbrev Answers : List Call → Result Bool Fault → Type 0
     Answers cs own = Trace Step d cs own r e
 
-    by_there : (there : Bool) → has_key blocks key ≡ there → Answers (home_calls blocks (hash key) ++ cond there (delete_write blocks key ∷ []) []) (Ok there) → Fine r e
+    by_there : (there : Bool) → has_key blocks key ≡ there
+        → Answers (home_calls blocks (hash key) ++ cond there (delete_write blocks key ∷ []) []) (Ok there)
+        → Fine r e
     by_there true is t =
         before pairs after (λ f. refl) d e h (home_calls blocks (hash key)) (delete_write blocks key ∷ []) (Ok true) r (home_quiet blocks (hash key)) t
         (λ m k q u v.
@@ -134,15 +136,19 @@ module _ (pairs : List Pair) (key : List ℕ) where
         before pairs after (λ f. refl) d e h hs [] (Ok false) r (home_quiet blocks (hash key)) t
         (λ m k q u v. subst (λ (a : Result Bool Fault). Fine a e) (sym v.0) (subst (λ (ps : List Pair). Holding ps e) (sym (absent d h is)) kept, tt))
 
-    by_good : (good : Bool) → good ≡ true → Answers (home_calls blocks (hash key) ++ cond (good && has_key blocks key) (delete_write blocks key ∷ []) []) (cond good (Ok (has_key blocks key)) (Err (bad_page (4 + home_page blocks key)))) → Fine r e
+    by_good : (good : Bool) → good ≡ true
+        → Answers (home_calls blocks (hash key) ++ cond (good && has_key blocks key) (delete_write blocks key ∷ []) [])
+        (cond good (Ok (has_key blocks key)) (Err (bad_page (4 + home_page blocks key))))
+        → Fine r e
     by_good true is t = by_there (has_key blocks key) refl t
     by_good false is t = absurd (both_ways false refl is)
 
-    by_key : (empty : Bool) → Answers
+    by_key : (empty : Bool)
+        → Answers
         (cond empty [] (home_calls blocks (hash key) ++ cond (is_good (home_bytes blocks key) && has_key blocks key) (delete_write blocks key ∷ []) []))
         (cond empty (Err (fault EmptyKey Database 0)) (cond (is_good (home_bytes blocks key)) (Ok (has_key blocks key)) (Err (bad_page (4 + home_page blocks key)))))
         → Fine r e
-    by_key true t = refused pairs after (λ f. refl) d e h [] (fault EmptyKey Database 0) r tt (spared_at EmptyKey (fault EmptyKey Database 0) refl (inl (omega arith))) t
+    by_key true t = refused pairs after (λ f. refl) d e h [] (fault EmptyKey Database 0) r tt (spared EmptyKey (inl (omega arith))) t
     by_key false t = by_good (is_good (home_bytes blocks key)) (good_yes (home_bytes blocks key) (good d h)) t
 
     deletes_fine : Answers (delete_calls blocks key) (deleted blocks key) → Fine r e

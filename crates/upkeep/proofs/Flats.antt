@@ -1,6 +1,6 @@
 -- The calls of a store's splits as writes, one after another: which numbers they claim, and what they write.
-use Rattle.std.proofs.Common.{◌≡◌, ℕ, zero, suc, ◌+◌, ◌-◌, ◌*◌, ◌/◌, ◌^◌, ◌<◌, ◌≤◌, Bool, true, false, min, find, flat_map, map, List, [], ◌∷◌, ◌++◌, Option, Some, None, Ok, Err, Result, refl, sym, ap, ap₂, ◌∙◌, subst, ⊎_elim, add-zero, arith}
-use Rattle.calls.specs.Store.{bits_clear, bits_under, claims, split_claims, split_writes, with_bit}
+use Rattle.std.proofs.Common.{◌≡◌, ℕ, zero, suc, ◌+◌, ◌-◌, ◌*◌, ◌/◌, ◌^◌, ◌<◌, ◌≤◌, Bool, true, min, find, flat_map, map, List, [], ◌∷◌, ◌++◌, Option, Some, None, Ok, Err, Result, refl, sym, ap, ap₂, ◌∙◌, subst, ⊎_elim, add-zero, arith}
+use Rattle.calls.specs.Store.{bits_clear, claims, split_claims, split_writes, with_bit}
 use Rattle.contents.specs.Blocks.{Blocks}
 use Rattle.devices.specs.Meaning.{Meaning, put}
 use Rattle.devices.specs.Step.{Call, Step, claim, fault, flush, read, write}
@@ -16,7 +16,7 @@ use Rattle.pages.specs.Page.{Pair}
 use Rattle.splits.proofs.Rooms.{fits_falling}
 use Rattle.splits.proofs.Splits.{half, put_here, put_other}
 use Rattle.splits.specs.Plan.{MaySplit}
-use Rattle.splits.specs.Writes.{split, splits, to_bit, to_page}
+use Rattle.splits.specs.Writes.{splits, to_bit, to_page}
 use Rattle.std.proofs.lemmas.Bool.{cases_eq}
 use Rattle.std.specs.List.{range_with_len}
 use Rattle.upkeep.proofs.Quiet.{AllQuiet, claimed_held, quiet_trace}
@@ -98,14 +98,14 @@ module _ (pairs : List Pair) (h : ℕ) where
   -- the writes may be made
   pub splits_may : Fits pairs → (s t p : ℕ) (ps : List Pair) → Fits ps → t + s ≤ 15 → AllMay (splits pairs h t s ++ to_page p ps ∷ [])
   splits_may fits zero t p ps f l = (f, tt)
-  splits_may fits (suc s) t p ps f l =
-      (
-        fits_falling (suc t) (low h t + 2 ^ t) pairs fits,
-        (node_lt h t (omega arith), (fits_falling (suc t) (low h t) pairs fits, splits_may fits s (suc t) p ps f (omega arith))),
-      )
+  splits_may fits (suc s) t p ps f l = (
+    fits_falling (suc t) (low h t + 2 ^ t) pairs fits,
+    (node_lt h t (omega arith), (fits_falling (suc t) (low h t) pairs fits, splits_may fits s (suc t) p ps f (omega arith))),
+  )
 
   -- and they are to numbers that were claimed
-  pub splits_held : (held : ℕ → Bool) (s t : ℕ) (ps : List Pair) → held (4 + low h t) ≡ true → AllClaimed held (split_claims h t s) → AllHeld held (splits pairs h t s ++ to_page (low h (t + s)) ps ∷ [])
+  pub splits_held : (held : ℕ → Bool) (s t : ℕ) (ps : List Pair) → held (4 + low h t) ≡ true → AllClaimed held (split_claims h t s)
+      → AllHeld held (splits pairs h t s ++ to_page (low h (t + s)) ps ∷ [])
   splits_held held zero t ps home c = (subst (λ (k : ℕ). held (4 + low h k) ≡ true) (sym (add-zero t)) home, tt)
   splits_held held (suc s) t ps home c =
       let e : suc t + s ≡ t + suc s = omega arith in

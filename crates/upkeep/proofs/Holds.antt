@@ -1,21 +1,19 @@
 -- What a database holds: of a blank one nothing, exactly the pairs of the list, and the same after calls that write nothing.
-use Rattle.std.proofs.Common.{◌≡◌, ℕ, zero, suc, ◌+◌, ◌*◌, ◌/◌, ◌%◌, ◌^◌, ◌<◌, Bool, true, false, cond, eqb, ltb, List, [], ◌∷◌, map, length, get_or, replicate, Contains, Ok, Err, Result, Some, None, inl, refl, sym, ap, ◌∙◌, subst, arith}
+use Rattle.std.proofs.Common.{◌≡◌, ℕ, zero, suc, ◌+◌, ◌/◌, ◌%◌, ◌^◌, Bool, false, eqb, ltb, List, [], map, get_or, replicate, Ok, Err, inl, refl, sym, ap, ◌∙◌, subst, arith}
 use native.Mathlib.Nat.{zero-div}
 use Rattle.contents.proofs.Held.{contents_bits, contents_pages, holds_once, look_found, look_held, pages_tidy}
 use Rattle.contents.proofs.Joins.{differ_none}
 use Rattle.contents.proofs.Tests.{pairs_good}
 use Rattle.contents.specs.Blocks.{Blocks, bits_in, blocks_of, page_in}
 use Rattle.contents.specs.Laws.{HeldIs}
-use Rattle.contents.specs.Contents.{Contents, Holds, contents_of, held, home, pairs_in}
-use Rattle.devices.specs.Meaning.{Meaning, Sound as Lawful}
-use Rattle.devices.specs.Step.{Step, flush}
+use Rattle.contents.specs.Contents.{Contents, contents_of, held, home}
+use Rattle.devices.specs.Meaning.{Meaning}
 use Rattle.directory.specs.Tree.{bit, bits_of}
-use Rattle.faults.specs.declared.Fault.{Fault}
 use Rattle.keys.proofs.Sames.{laws}
 use Rattle.lookup.proofs.Reading.{block_shown}
 use Rattle.lookup.specs.Reads.{reads}
 use Rattle.pages.proofs.Pages.{blank_good}
-use Rattle.pages.specs.Page.{Good, Pair, count, look, pair_of, pairs, pairs_of}
+use Rattle.pages.specs.Page.{Good, Pair, look, pair_of, pairs, pairs_of}
 use Rattle.splits.proofs.Sounds.{blank_sound}
 use Rattle.splits.specs.Laws.{Sound}
 use Rattle.std.proofs.lemmas.Bool.{cond_both}
@@ -105,9 +103,9 @@ blank_holds d lawful blank =
       device = lawful;
       unclaimed = λ n l _. sym (block_shown d n l) ∙ blank n;
       sound = blank_sound c (record {
-          clear = λ i. ap (λ (bits : ℕ → Bool). bits i) (contents_bits (blocks_of d)) ∙ bits_blank (blocks_of d) blank i;
-          empty = pages_blank (blocks_of d) blank;
-        });
+        clear = λ i. ap (λ (bits : ℕ → Bool). bits i) (contents_bits (blocks_of d)) ∙ bits_blank (blocks_of d) blank i;
+        empty = pages_blank (blocks_of d) blank;
+      });
       good = λ p. blank_good (page_in (blocks_of d) p) (blank (4 + p));
       held = λ key. ap (look key) (pages_blank (blocks_of d) blank (home c key));
       differ = differ_none;

@@ -1,5 +1,5 @@
 -- The home page of a key in the blocks of a device, and in what they hold.
-use Rattle.std.proofs.Common.{◌≡◌, ℕ, ◌+◌, Bool, true, false, not, cond, List, [], ◌∷◌, ◌++◌, Option, Some, None, is_some, filter, refl, sym, ap, ◌∙◌, ⊎_elim, arith}
+use Rattle.std.proofs.Common.{◌≡◌, ℕ, Bool, true, false, List, [], ◌∷◌, Option, Some, None, is_some, refl, sym, ap, ◌∙◌, ⊎_elim}
 use Rattle.calls.specs.Delete.{has_key, home_depth, home_pairs}
 use Rattle.calls.specs.Fetch.{home_bytes, home_page}
 use Rattle.contents.proofs.Held.{contents_bits, contents_pages}
@@ -11,7 +11,7 @@ use Rattle.directory.specs.Tree.{depth_of, page_of}
 use Rattle.keys.specs.Hash.{hash}
 use Rattle.keys.specs.Same.{same}
 use Rattle.page_edits.specs.Edit.{dropped}
-use Rattle.pages.specs.Page.{Good, Pair, look, pairs_of}
+use Rattle.pages.specs.Page.{Good, Pair, look}
 use Rattle.pages.specs.Read.{Found, Place}
 use Rattle.splits.specs.Writes.{depth_at, pairs_at}
 use Rattle.std.proofs.lemmas.Bool.{cases_Bool, cond-false, cond-true}

@@ -1,5 +1,5 @@
 -- How a call comes out: what it leaves of the pairs held, and that its refusal is none of 6, 7 and 11.
-use Rattle.std.proofs.Common.{◌≡◌, ℕ, ◌<◌, List, [], ◌∷◌, ◌++◌, length, take, Ok, Err, Result, refl, sym, ap, ◌∙◌, subst, take_all, arith}
+use Rattle.std.proofs.Common.{◌≡◌, ℕ, ◌<◌, List, ◌++◌, length, take, Ok, Err, Result, sym, ap, ◌∙◌, subst, take_all, arith}
 use Rattle.contents.specs.Blocks.{blocks_of}
 use Rattle.contents.specs.Contents.{contents_of}
 use Rattle.devices.specs.Meaning.{Meaning}
@@ -11,7 +11,7 @@ use Rattle.splits.specs.Writes.{Write, all_made}
 use Rattle.upkeep.proofs.Holds.{holding_quiet}
 use Rattle.upkeep.proofs.Quiet.{AllQuiet, Quiet, Spared, never_accepted, quiet_never, quiet_trace}
 use Rattle.upkeep.proofs.Traces.{Parts, parts, stopped, through}
-use Rattle.upkeep.proofs.Writes.{Cut, Left}
+use Rattle.upkeep.proofs.Writes.{Left}
 use Rattle.upkeep.specs.Holding.{Holding}
 use Rattle.upkeep.specs.Laws.{Never}
 

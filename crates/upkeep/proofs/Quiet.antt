@@ -1,7 +1,8 @@
 -- Calls that write nothing: what they leave, and how they are not refused.
-use Rattle.std.proofs.Common.{◌≡◌, ◌⊎◌, ℕ, ◌+◌, ◌-◌, ◌<◌, ◌≤◌, Bool, true, false, eqb, List, [], ◌∷◌, ◌++◌, length, replicate, map, cond, ltb, Ok, Err, Result, inl, inr, refl, sym, ap, ◌∙◌, subst, ⊎_elim, arith}
+use Rattle.std.proofs.Common.{◌≡◌, ◌⊎◌, ℕ, ◌+◌, ◌<◌, ◌≤◌, Bool, true, false, eqb, List, [], ◌∷◌, ◌++◌, length, replicate, cond, ltb, Ok, Err, Result, inl, inr, refl, sym, ap, ◌∙◌, subst, ⊎_elim, arith}
+use Rattle.std.proofs.Math.Path.{fun_ext}
 use Rattle.contents.specs.Blocks.{Blocks, bits_in, blocks_of}
-use Rattle.devices.specs.Meaning.{Meaning, Zeroed, put, Sound as Lawful}
+use Rattle.devices.specs.Meaning.{Meaning, Zeroed, Sound as Lawful}
 use Rattle.devices.specs.Step.{Call, Claimed, Failed, Kept, Step, claim, flush, read, write}
 use Rattle.devices.specs.Trace.{Trace}
 use Rattle.directory.specs.Tree.{page_of}
@@ -32,23 +33,23 @@ quiet_then d m e a b = record {
   held = λ n h. b.held n (a.held n h);
 }
 
+-- a block that is as it was is shown as it was
+pub blocks_like : (d e : Meaning) → e.limit ≡ d.limit → (k : ℕ) → e.block k ≡ d.block k → blocks_of e k ≡ blocks_of d k
+unfolding blocks_of
+blocks_like d e limit k same =
+    ap (λ (l : ℕ). cond (ltb k l) (e.block k) (replicate 1024 0)) limit ∙ ap (λ (b : List ℕ). cond (ltb k d.limit) b (replicate 1024 0)) same
+
 -- nothing but held numbers was changed, and they are below the limit
 module _ (d e : Meaning) (limit : e.limit ≡ d.limit) (block : e.block ≡ d.block) where
-  blocks_same : blocks_of e ≡ blocks_of d
-  unfolding blocks_of
-  blocks_same =
-      ap {B = ℕ → List ℕ} (λ (l : ℕ). λ (n : ℕ). cond (ltb n l) (e.block n) (replicate 1024 0)) limit
-      ∙ ap {B = ℕ → List ℕ} (λ (b : ℕ → List ℕ). λ (n : ℕ). cond (ltb n d.limit) (b n) (replicate 1024 0)) block
-
   pub quiet_from : e.spent ≡ d.spent → ((n : ℕ) → d.held n ≡ true → e.held n ≡ true) → ((n : ℕ) → e.held n ≡ true → (d.held n ≡ true) ⊎ (n < d.limit)) → Quiet d e
   quiet_from spent more inside = record {
-    blocks = blocks_same;
+    blocks = fun_ext (λ k. blocks_like d e limit k (ap (λ (b : ℕ → List ℕ). b k) block));
     lawful = λ l. record {
-        bounded = omega (arith, limit, l.bounded);
-        inside = λ n h. omega (arith, limit, ⊎_elim (l.inside n) (λ k. k) (inside n h));
-        whole = λ n k. ap (λ (b : ℕ → List ℕ). length (b n)) block ∙ l.whole n (omega (arith, limit));
-        spent = λ n. ap (λ (s : ℕ → Fault). (s n).refusal) spent ∙ l.spent n;
-      };
+      bounded = omega (arith, limit, l.bounded);
+      inside = λ n h. omega (arith, limit, ⊎_elim (l.inside n) (λ k. k) (inside n h));
+      whole = λ n k. ap (λ (b : ℕ → List ℕ). length (b n)) block ∙ l.whole n (omega (arith, limit));
+      spent = λ n. ap (λ (s : ℕ → Fault). (s n).refusal) spent ∙ l.spent n;
+    };
     zeroed = λ z n k h.
         ap (λ (b : ℕ → List ℕ). b n) block
         ∙ z n (omega (arith, limit)) (false_from_ne_true (d.held n) (λ t. both_ways (e.held n) h (more n t)));
@@ -94,23 +95,24 @@ claimed_held d e n c =
 abbrev pub Spared : Refusal → Type 0
 Spared q = (refusal_number q ≡ 6 → ⊥) × (refusal_number q ≡ 7 → ⊥) × (refusal_number q ≡ 11 → ⊥)
 
-pub spared_is : (f : Fault) (q : Refusal) → f.refusal ≡ q → Spared q → Spared f.refusal
-spared_is f q e s = subst Spared (sym e) s
+pub spared : (q : Refusal) → (refusal_number q < 6) ⊎ ((7 < refusal_number q) × (refusal_number q ≡ 11 → ⊥)) → Spared q
+spared q (inl l) = (λ x. omega arith, λ x. omega arith, λ x. omega arith)
+spared q (inr l) = (λ x. omega (arith, l.0), λ x. omega (arith, l.0), l.1)
 
-pub spared_at : (q : Refusal) (f : Fault) → f.refusal ≡ q → (refusal_number q < 6) ⊎ ((7 < refusal_number q) × (refusal_number q ≡ 11 → ⊥)) → Spared f.refusal
-spared_at q f e w = spared_is f q e (⊎_elim (λ l. (λ x. omega arith, λ x. omega arith, λ x. omega arith)) (λ l. (λ x. omega (arith, l.0), λ x. omega (arith, l.0), l.1)) w)
+spared_at : (q : Refusal) (f : Fault) → f.refusal ≡ q → Spared q → Spared f.refusal
+spared_at q f e s = subst Spared (sym e) s
 
 pub failed_spared : (f : Fault) (e : Meaning) → Failed f e → Spared f.refusal
-failed_spared f e x = spared_at DeviceFailed f x.refusal (inr (omega arith, λ e. omega arith))
+failed_spared f e x = spared_at DeviceFailed f x.refusal (spared DeviceFailed (inr (omega arith, λ e. omega arith)))
 
 pub block_spared : (f : Fault) → f.refusal ≡ NotABlock → Spared f.refusal
-block_spared f e = spared_at NotABlock f e (inl (omega arith))
+block_spared f e = spared_at NotABlock f e (spared NotABlock (inl (omega arith)))
 
 pub limit_spared : (f : Fault) → f.refusal ≡ PastLimit → Spared f.refusal
-limit_spared f e = spared_at PastLimit f e (inr (omega arith, λ e. omega arith))
+limit_spared f e = spared_at PastLimit f e (spared PastLimit (inr (omega arith, λ e. omega arith)))
 
 claim_spared : (f : Fault) → f.refusal ≡ NoClaim → Spared f.refusal
-claim_spared f e = spared_at NoClaim f e (inr (omega arith, λ e. omega arith))
+claim_spared f e = spared_at NoClaim f e (spared NoClaim (inr (omega arith, λ e. omega arith)))
 
 -- calls
 

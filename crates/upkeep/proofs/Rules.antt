@@ -1,13 +1,11 @@
 -- What the calls of a list are answered is by the rules of the device.
-use Rattle.std.proofs.Common.{◌≡◌, ◌⊎◌, ℕ, ◌-◌, ◌<◌, ◌≤◌, Bool, true, false, cond, eqb, ltb, List, [], ◌∷◌, length, None, Some, Option, Ok, Err, Result, inl, inr, refl, sym, ap, ◌∙◌, ⊎_elim, arith}
+use Rattle.std.proofs.Common.{◌≡◌, ◌⊎◌, ℕ, ◌-◌, ◌<◌, ◌≤◌, Bool, true, false, eqb, ltb, List, [], ◌∷◌, length, Some, Ok, Err, Result, inl, inr, refl, sym, ap, ◌∙◌, ⊎_elim, arith}
 use Rattle.devices.specs.Meaning.{Meaning, put}
-use Rattle.devices.specs.Step.{Call, Claimed, Failed, Kept, NotClaimed, NotRead, NotWritten, Step, WasRead, Wrote, claim, fault, flush, read, write}
-use Rattle.devices.specs.Trace.{Trace}
+use Rattle.devices.specs.Step.{Call, Failed, Kept, Step, claim, flush, read, write}
 use Rattle.faults.specs.declared.Fault.{Fault}
-use Rattle.faults.specs.declared.Refusal.TheVariants.{NotABlock, NotHeld, PastLimit}
-use Rattle.std.proofs.lemmas.Bool.{cases_Bool, cases_eq, cases_lt, cond-false, cond-true, eq-eqb, le-ltb, lt-ltb, ne_eqb}
+use Rattle.std.proofs.lemmas.Bool.{cases_Bool, cases_eq, cases_lt, eq-eqb, le-ltb, lt-ltb, ne_eqb}
 use Rattle.upkeep.specs.Laws.{AnsweredByRule}
-use Rattle.upkeep.specs.Refusals.{ByRule, after_claim, first_refusal, past}
+use Rattle.upkeep.specs.Refusals.{ByRule, after_claim, first_refusal}
 
 -- the rules ask no more of a device than these
 record Alike (d e : Meaning) : Type 0 where

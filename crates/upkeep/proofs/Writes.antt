@@ -1,9 +1,9 @@
 -- Writes as calls on a device, and what each front of a list of them leaves.
-use Rattle.std.proofs.Common.{◌≡◌, ℕ, zero, suc, ◌+◌, ◌/◌, ◌<◌, ◌≤◌, Bool, true, false, cond, eqb, ltb, ltb-true, List, [], ◌∷◌, length, take, replicate, Ok, Err, Result, refl, sym, ap, ap₂, ◌∙◌, subst, ⊎_elim, arith}
+use Rattle.std.proofs.Common.{◌≡◌, ℕ, suc, ◌+◌, ◌/◌, ◌<◌, ◌≤◌, Bool, true, false, eqb, ltb, ltb-true, List, [], ◌∷◌, length, take, replicate, Ok, Err, Result, refl, sym, ap, ◌∙◌, subst, ⊎_elim, arith}
 use Rattle.std.proofs.Math.Path.{fun_ext}
 use Rattle.calls.specs.Store.{with_bit}
 use Rattle.contents.specs.Blocks.{Blocks, blocks_of, page_in}
-use Rattle.contents.specs.Contents.{Contents, contents_of}
+use Rattle.contents.specs.Contents.{contents_of}
 use Rattle.devices.specs.Meaning.{Meaning, Zeroed, put, Sound as Lawful}
 use Rattle.devices.specs.Step.{Call, Kept, NotWritten, Step, Wrote, write}
 use Rattle.devices.specs.Trace.{Trace}
@@ -11,13 +11,13 @@ use Rattle.faults.specs.declared.Fault.{Fault}
 use Rattle.lookup.proofs.Reading.{block_shown}
 use Rattle.page_edits.proofs.Back.{reads_back}
 use Rattle.page_edits.specs.Write.{Fits, written}
-use Rattle.pages.specs.Page.{Good, Pair}
+use Rattle.pages.specs.Page.{Good}
 use Rattle.splits.proofs.Splits.{put_here, put_other}
 use Rattle.splits.specs.Writes.{Write, all_made, made, to_bit, to_page}
-use Rattle.std.proofs.lemmas.Bool.{both_ways, cases_eq, cases_lt, cond_both, lt-ltb}
+use Rattle.std.proofs.lemmas.Bool.{both_ways, cases_eq, cases_lt, cond_both}
 use Rattle.std.proofs.lemmas.List.{length-replicate}
 use Rattle.upkeep.proofs.Marks.{contents_marked, contents_written}
-use Rattle.upkeep.proofs.Quiet.{Quiet, Spared, block_spared, failed_spared, limit_spared, quiet_kept}
+use Rattle.upkeep.proofs.Quiet.{Spared, block_spared, blocks_like, failed_spared, limit_spared, quiet_kept}
 
 -- the block that a write goes to, and its bytes
 abbrev pub number : Write → ℕ
@@ -48,6 +48,10 @@ abbrev pub AllHeld : (ℕ → Bool) → List Write → Type 0
 AllHeld held [] = Unit
 AllHeld held (w ∷ ws) = (held (number w) ≡ true) × AllHeld held ws
 
+-- a write that was accepted
+abbrev Accepted : Write → Meaning → Meaning → Type 0
+Accepted w d e = Wrote d (number w) (bytes (blocks_of d) w) e
+
 -- what holds of a database's device during writes too
 pub record Sane (d : Meaning) : Type 0 where
   pub device : Lawful d
@@ -75,11 +79,6 @@ module _ (blocks : Blocks) where
   good_after (to_bit i) range good p =
       subst Good (sym (put_other blocks (i / 8192) (with_bit (blocks (i / 8192)) i) (4 + p) (λ e. omega arith))) (good p)
 
-blocks_like : (d e : Meaning) → e.limit ≡ d.limit → (k : ℕ) → e.block k ≡ d.block k → blocks_of e k ≡ blocks_of d k
-unfolding blocks_of
-blocks_like d e limit k same =
-    ap (λ (l : ℕ). cond (ltb k l) (e.block k) (replicate 1024 0)) limit ∙ ap (λ (b : List ℕ). cond (ltb k d.limit) b (replicate 1024 0)) same
-
 module _ (d e : Meaning) (n : ℕ) (new : List ℕ) (w : Wrote d n new e) where
   wrote_blocks : blocks_of e ≡ put (blocks_of d) n new
   wrote_blocks = fun_ext (λ k. ⊎_elim (here k) (other k) (cases_eq k n))
@@ -99,7 +98,9 @@ module _ (d e : Meaning) (n : ℕ) (new : List ℕ) (w : Wrote d n new e) where
   wrote_lawful l = record {
     bounded = omega (arith, w.stays.limit, l.bounded);
     inside = λ k h. omega (arith, w.stays.limit, l.inside k (sym (ap (λ (f : ℕ → Bool). f k) w.held) ∙ h));
-    whole = λ k m. ap (λ (b : ℕ → List ℕ). length (b k)) w.block ∙ cond_both (eqb k n) new (d.block k) (λ b. length b ≡ 1024) (λ _. w.buffer) (λ _. l.whole k (omega (arith, w.stays.limit)));
+    whole = λ k m.
+        ap (λ (b : ℕ → List ℕ). length (b k)) w.block
+        ∙ cond_both (eqb k n) new (d.block k) (λ b. length b ≡ 1024) (λ _. w.buffer) (λ _. l.whole k (omega (arith, w.stays.limit)));
     spent = λ k. ap (λ (s : ℕ → Fault). (s k).refusal) w.stays.spent ∙ l.spent k;
   }
 
@@ -110,7 +111,7 @@ module _ (d e : Meaning) (n : ℕ) (new : List ℕ) (w : Wrote d n new e) where
       ∙ put_other d.block n new k (λ q. both_ways (d.held k) free (ap d.held q ∙ w.was_held))
       ∙ z k (omega (arith, w.stays.limit)) free
 
-wrote_sane : (d e : Meaning) (w : Write) → Sane d → May w → Wrote d (number w) (bytes (blocks_of d) w) e → Sane e
+wrote_sane : (d e : Meaning) (w : Write) → Sane d → May w → Accepted w d e → Sane e
 wrote_sane d e w s may x = record {
   device = wrote_lawful d e (number w) (bytes (blocks_of d) w) x s.device;
   unclaimed = wrote_zeroed d e (number w) (bytes (blocks_of d) w) x s.unclaimed;
@@ -152,7 +153,9 @@ left_none : {X : Type 0} (d e : Meaning) (x : X) (r : Result X Fault) → Sane d
 left_none d e x (Ok y) s is same = record { sane = subst Sane (sym same) s; many = 0; contents = ap (λ (m : Meaning). contents_of (blocks_of m)) same; cut = refl }
 left_none d e x (Err f) s is same = let z : ◌≡◌ {A = ℕ} 0 1 = cc in absurd (omega arith)
 
-left_refused : {X : Type 0} (w : Write) (ws : List Write) (d e : Meaning) (f : Fault) → Sane d → d.held (number w) ≡ true → Step d (write (number w) (bytes (blocks_of d) w)) (Err f) e → Left {X = X} (w ∷ ws) d (Err f) e
+left_refused : {X : Type 0} (w : Write) (ws : List Write) (d e : Meaning) (f : Fault) → Sane d → d.held (number w) ≡ true
+    → Step d (write (number w) (bytes (blocks_of d) w)) (Err f) e
+    → Left {X = X} (w ∷ ws) d (Err f) e
 left_refused w ws d e f s held x = record {
   sane = sane_kept d e x.0 s;
   many = 0;
@@ -160,12 +163,13 @@ left_refused w ws d e f s held x = record {
   cut = (omega arith, write_spared d e (number w) (length (bytes (blocks_of d) w)) f held x.1);
 }
 
-left_more : {X : Type 0} (w : Write) (ws : List Write) (d m e : Meaning) (r : Result X Fault) → Sane d → May w → Wrote d (number w) (bytes (blocks_of d) w) m → Left ws m r e → Left (w ∷ ws) d r e
+left_more : {X : Type 0} (w : Write) (ws : List Write) (d m e : Meaning) (r : Result X Fault) → Sane d → May w → Accepted w d m → Left ws m r e → Left (w ∷ ws) d r e
 left_more {X} w ws d m e r s may x left = record {
   sane = left.sane;
   many = suc left.many;
   contents = left.contents
-      ∙ ap (all_made (take left.many ws)) (ap contents_of (wrote_blocks d m (number w) (bytes (blocks_of d) w) x) ∙ contents_after (blocks_of d) w may (whole_blocks d s.device));
+      ∙ ap (all_made (take left.many ws))
+      (ap contents_of (wrote_blocks d m (number w) (bytes (blocks_of d) w) x) ∙ contents_after (blocks_of d) w may (whole_blocks d s.device));
   cut = more r left.cut;
 }
   where
@@ -174,7 +178,7 @@ left_more {X} w ws d m e r s may x left = record {
     more (Err f) c = (omega (arith, c.0), c.1)
 
 -- after a write that was accepted the others are those of the blocks that it left, to the same held numbers
-after_one : {X : Type 0} (w : Write) (ws : List Write) (d m e : Meaning) (x : X) (r : Result X Fault) → May w → Sane d → Wrote d (number w) (bytes (blocks_of d) w) m
+after_one : {X : Type 0} (w : Write) (ws : List Write) (d m e : Meaning) (x : X) (r : Result X Fault) → May w → Sane d → Accepted w d m
     → Trace Step m (write_calls (after_write (blocks_of d) w) ws) (Ok x) r e
     → (Sane m → Trace Step m (write_calls (blocks_of m) ws) (Ok x) r e → Left ws m r e)
     → Left (w ∷ ws) d r e
@@ -182,12 +186,15 @@ after_one w ws d m e x r may s wrote t go =
     let blocks = wrote_blocks d m (number w) (bytes (blocks_of d) w) wrote in
     left_more w ws d m e r s may wrote (go (wrote_sane d m w s may wrote) (subst (λ (b : Blocks). Trace Step m (write_calls b ws) (Ok x) r e) (sym blocks) t))
 
-still_held : (w : Write) (ws : List Write) (d m : Meaning) → AllHeld d.held ws → Wrote d (number w) (bytes (blocks_of d) w) m → AllHeld m.held ws
+still_held : (w : Write) (ws : List Write) (d m : Meaning) → AllHeld d.held ws → Accepted w d m → AllHeld m.held ws
 still_held w ws d m held wrote = subst (λ (h : ℕ → Bool). AllHeld h ws) (sym wrote.held) held
 
-pub writes_leave : {X : Type 0} (ws : List Write) (d e : Meaning) (x : X) (r : Result X Fault) → AllMay ws → AllHeld d.held ws → Sane d → Trace Step d (write_calls (blocks_of d) ws) (Ok x) r e → Left ws d r e
+pub writes_leave : {X : Type 0} (ws : List Write) (d e : Meaning) (x : X) (r : Result X Fault) → AllMay ws → AllHeld d.held ws → Sane d
+    → Trace Step d (write_calls (blocks_of d) ws) (Ok x) r e
+    → Left ws d r e
 writes_leave [] d e x r may held s t = left_none d e x r s t.0 t.1
-writes_leave (w ∷ ws) d e x (Ok y) may held s t = after_one w ws d t.0 e x (Ok y) may.0 s t.1 t.2 (λ s u. writes_leave ws t.0 e x (Ok y) may.1 (still_held w ws d t.0 held.1 t.1) s u)
+writes_leave (w ∷ ws) d e x (Ok y) may held s t =
+    after_one w ws d t.0 e x (Ok y) may.0 s t.1 t.2 (λ s u. writes_leave ws t.0 e x (Ok y) may.1 (still_held w ws d t.0 held.1 t.1) s u)
 writes_leave (w ∷ ws) d e x (Err f) may held s t =
     ⊎_elim (left_refused w ws d e f s held.0)
     (λ u. after_one w ws d u.0 e x (Err f) may.0 s u.1 u.2 (λ s v. writes_leave ws u.0 e x (Err f) may.1 (still_held w ws d u.0 held.1 u.1) s v)) t

@@ -1,5 +1,5 @@
 -- What each call of a database leaves of the pairs that it holds, whatever it is answered.
-use Rattle.std.specs.Prelude.{◌≡◌, ◌≢◌, ℕ, List, [], ◌∷◌, Bool, ⊤, Ok, Err, Result}
+use Rattle.std.specs.Prelude.{◌≡◌, ◌≢◌, ℕ, List, [], Bool, ⊤, Ok, Err, Result}
 use Rattle.calls.specs.Delete.{delete_calls, deleted}
 use Rattle.calls.specs.Store.{store_calls, stored}
 use Rattle.calls.specs.declared.Mode.{Mode}

@@ -1,4 +1,3 @@
-use Rattle.std.specs.Prelude.{Bool}
 use Rattle.upkeep.proofs.Deletes.{delete_keeps, delete_never}
 use Rattle.upkeep.proofs.Holds.{blank_holds, flush_keeps, holds_exactly, reads_keep}
 use Rattle.upkeep.proofs.Rules.{by_rule}

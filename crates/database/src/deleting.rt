@@ -10,7 +10,7 @@ use page_edits::keep_others;
 
 impl<D: Device> Database<D> {
     // Removes a key's pair, and says whether it was there. The page's strays go with it.
-    pub(crate) fn delete(&mut self, key: &[u8]) -> Result<bool, Fault>
+    pub fn delete(&mut self, key: &[u8]) -> Result<bool, Fault>
         ensures { Made D.Device.steps D.Device.meaning self.old.device (λ blocks. delete_calls blocks key.now) (λ blocks. deleted blocks key.now) result self.new.device }
     {
         if key.is_empty() {

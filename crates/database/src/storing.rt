@@ -35,7 +35,7 @@ const LONGEST_PAIR: usize = 1008;
 
 impl<D: Device> Database<D> {
     // Stores a pair. All its reads come before all its claims, and all its claims before all its writes.
-    pub(crate) fn store(&mut self, key: &[u8], value: &[u8], mode: Mode) -> Result<(), Fault>
+    pub fn store(&mut self, key: &[u8], value: &[u8], mode: Mode) -> Result<(), Fault>
         ensures { Made D.Device.steps D.Device.meaning self.old.device (λ blocks. store_calls blocks key.now value.now mode) (λ blocks. stored blocks key.now value.now mode) result self.new.device }
     {
         check_pair(key, value)?;
@@ -51,7 +51,7 @@ impl<D: Device> Database<D> {
     }
 
     // Stores a record's code, whatever value the key has.
-    pub(crate) fn put<R: Record>(&mut self, key: &[u8], item: &R) -> Result<(), Fault>
+    pub fn put<R: Record>(&mut self, key: &[u8], item: &R) -> Result<(), Fault>
         ensures { Made D.Device.steps D.Device.meaning self.old.device (λ blocks. store_calls blocks key.now (R.Record.code item.now) Replace) (λ blocks. stored blocks key.now (R.Record.code item.now) Replace) result self.new.device }
     {
         let mut code = [0; LONGEST];

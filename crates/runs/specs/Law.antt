@@ -1,7 +1,7 @@
 -- The law over whole runs: what holds at each point of a list of calls, with the pairs that the reference list has there.
-use Rattle.std.specs.Prelude.{◌≡◌, ◌⊎◌, ℕ, List, [], ◌∷◌, ⊤, is_some, Some, None, Ok, Err, Option, Result}
+use Rattle.std.specs.Prelude.{◌≡◌, ◌⊎◌, ℕ, List, [], ◌∷◌, ⊤, is_some, Some, None, Ok, Option, Result}
 use Rattle.calls.specs.declared.Stepped.TheVariants.{End, Pair as PairShown}
-use Rattle.contents.specs.Blocks.{Blocks, blocks_of, page_in}
+use Rattle.contents.specs.Blocks.{blocks_of, page_in}
 use Rattle.contents.specs.Contents.{Position, contents_of}
 use Rattle.contents.specs.Laws.{Differ, Exactly}
 use Rattle.devices.specs.Meaning.{Meaning}
@@ -12,7 +12,7 @@ use Rattle.pages.specs.Read.{bytes_at}
 use Rattle.runs.specs.Performed.{Performed, answer_of, calls_of}
 use Rattle.runs.specs.Reference.{fed}
 use Rattle.runs.specs.declared.Answer.{Answer}
-use Rattle.runs.specs.declared.Answer.TheVariants.{Deleted, Done, Found, Got, Shown}
+use Rattle.runs.specs.declared.Answer.TheVariants.{Deleted, Found, Got, Shown}
 use Rattle.runs.specs.declared.Call.{Call}
 use Rattle.runs.specs.declared.Call.TheVariants.{Delete, Fetch, Flush, Get, Put, Step, Store}
 use Rattle.runs.specs.declared.Outcome.{Outcome}

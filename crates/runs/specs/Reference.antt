@@ -1,5 +1,5 @@
 -- The reference list: the pairs that an ordinary list would have, fed each call's arguments and whether it was accepted.
-use Rattle.std.specs.Prelude.{ℕ, List, Ok, Err, Result}
+use Rattle.std.specs.Prelude.{ℕ, List, Ok, Result}
 use Rattle.faults.specs.declared.Fault.{Fault}
 use Rattle.page_edits.specs.Edit.{dropped, with_pair}
 use Rattle.pages.specs.Page.{Pair}

@@ -1,0 +1,2 @@
+pub mod Quieted
+pub mod Walked

@@ -1,2 +1,4 @@
 pub mod Made
+pub mod Quieted
+pub mod Walked
 pub mod Each

@@ -9,6 +9,7 @@ mod storing;
 mod walking;
 
 ghost use Rattle.std.specs.Prelude.{◌≡◌, Ok, [], ◌∷◌};
+ghost use Rattle.devices.specs.Meaning.{Sound};
 ghost use Rattle.devices.specs.Step.{flush as Flushes};
 ghost use Rattle.lookup.specs.Made.{Made};
 
@@ -36,6 +37,14 @@ impl<D: Device> Database<D> {
         ensures { result ≡ self.device }
     {
         self.device
+    }
+
+    // How many blocks the device has.
+    pub fn limit(&self) -> u32
+        ensures value { result ≡ (D.Device.meaning self.now.device).limit }
+        ensures sound { Sound (D.Device.meaning self.now.device) }
+    {
+        self.device.limit()
     }
 
     // Brings every block down to the device at the bottom.

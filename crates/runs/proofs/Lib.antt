@@ -2,3 +2,4 @@ pub mod Made
 pub mod Quieted
 pub mod Walked
 pub mod Each
+pub mod Story

@@ -9,7 +9,7 @@ use Rattle.contents.proofs.Held.{pages_tidy}
 use Rattle.contents.proofs.Walks.{walk_shows}
 use Rattle.contents.specs.Blocks.{Blocks, blocks_of}
 use Rattle.contents.specs.Contents.{Contents, Position, contents_of, remaining}
-use Rattle.contents.specs.Laws.{Exactly, Walk}
+use Rattle.contents.specs.Laws.{Walk}
 use Rattle.database.proofs.Walks.{step_shows}
 use Rattle.devices.proofs.Traces.{trace_meaning}
 use Rattle.devices.specs.Meaning.{Meaning}
@@ -21,7 +21,7 @@ use Rattle.runs.proofs.Quieted.{fetch_quiet, step_quiet}
 use Rattle.runs.specs.Law.{SamePairs, StepShows, Walked}
 use Rattle.runs.specs.Performed.{Performed, Ran, answer_of, blank, calls_of, told_as}
 use Rattle.runs.specs.declared.Answer.{Answer}
-use Rattle.runs.specs.declared.Answer.TheVariants.{Deleted, Done, Found, Got, Shown}
+use Rattle.runs.specs.declared.Answer.TheVariants.{Shown}
 use Rattle.runs.specs.declared.Call.{Call}
 use Rattle.runs.specs.declared.Call.TheVariants.{Delete, Fetch, Flush, Get, Put, Step, Store}
 use Rattle.runs.specs.declared.Outcome.{Outcome}

@@ -59,6 +59,8 @@ pub fn run<D: Device, K: Kinds + Drop>(
     ensures ran { IfOk result (λ outcomes. Ran D.Device.steps D.Device.meaning K.Kinds.code K.Kinds.decoded calls.now outcomes.items database.old.device database.new.device) }
     ensures law { IfOk result (λ outcomes. BlankBlocks (blocks_of (D.Device.meaning database.old.device)) → Along D.Device.steps D.Device.meaning K.Kinds.code K.Kinds.decoded [] calls.now outcomes.items database.old.device database.new.device) }
 {
+    // What holds of every device, and the law rests on, a device says with its limit.
+    let _limit = database.limit();
     let mut outcomes = Vec::with_capacity(alloc, calls.len())?;
     for call in calls {
         outcomes.push(perform(database, call))?;

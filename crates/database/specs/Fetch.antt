@@ -1,5 +1,5 @@
 -- What fetch and get answer where no read is refused, what they read, and what they leave in the caller's buffer.
-use Rattle.std.specs.Prelude.{◌≡◌, ℕ, ◌+◌, Bool, cond, List, [], length, Some, None, Ok, Err, Option, Result, ◌==◌}
+use Rattle.std.specs.Prelude.{◌≡◌, ℕ, ◌+◌, cond, List, [], length, Some, None, Ok, Err, Option, Result, ◌==◌}
 use Rattle.contents.specs.Blocks.{Blocks, bits_in, page_in}
 use Rattle.contents.specs.Test.{is_good, place_of}
 use Rattle.devices.specs.Step.{Call, fault}
@@ -34,8 +34,12 @@ found blocks key size =
     with_input key size (λ f. Err f)
     (cond (is_good (home_bytes blocks key)) (Ok (4 + home_page blocks key, place_of (home_bytes blocks key) key)) (Err (bad_page (4 + home_page blocks key))))
 
+abbrev pub place_alone : Result (ℕ × Option Place) Fault → Result (Option Place) Fault
+place_alone (Ok home) = Ok home.1
+place_alone (Err f) = Err f
+
 abbrev pub fetched : Blocks → List ℕ → ℕ → Result (Option Place) Fault
-fetched blocks key size = elim (found blocks key size) [ Ok home ↦ Ok home.1 | Err f ↦ Err f ]
+fetched blocks key size = place_alone (found blocks key size)
 
 -- the bytes at the place decoded; bytes that are no code are refused 13, naming their block
 abbrev pub record_at : {R : Type 0} → (List ℕ → Option R) → List ℕ → ℕ → Place → Result R Fault

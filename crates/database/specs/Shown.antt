@@ -1,5 +1,5 @@
 -- What the answers show of the pairs that the database holds.
-use Rattle.std.specs.Prelude.{◌≡◌, ℕ, ◌<◌, List, [], ◌∷◌, length, ⊤, Some, None, Ok, Err, Option, Result}
+use Rattle.std.specs.Prelude.{◌≡◌, ℕ, List, [], ◌∷◌, ⊤, Some, None, Ok, Err, Option, Result}
 use Rattle.contents.specs.Contents.{Contents, Position, held, remaining}
 use Rattle.database.specs.declared.Stepped.{Stepped}
 use Rattle.database.specs.declared.Stepped.TheVariants.{End, Pair}

@@ -1,7 +1,9 @@
 // The database over any stack of devices: a directory in blocks 0 to 3, and page p in block 4 + p.
 #![tactic(auto)]
 
+mod checking;
 mod fetching;
+mod splitting;
 mod walking;
 
 ghost use Rattle.std.specs.Prelude.{◌≡◌, Ok, [], ◌∷◌};
@@ -21,6 +23,15 @@ pub type Position = (u32, u32);
 pub enum Stepped {
     Pair((Place, Place, Position)),
     End,
+}
+
+// What a store does where the key is there.
+#[derive(Clone, Copy, PartialEq, Eq, Debug)]
+pub enum Mode {
+    // refuses
+    Insert,
+    // replaces its pair
+    Replace,
 }
 
 // A database, which alone uses its device.

@@ -1,5 +1,5 @@
 -- What reads of a device find, and what they leave.
-use Rattle.std.proofs.Common.{◌≡◌, ℕ, ◌/◌, ◌<◌, cond, ltb, List, [], ◌∷◌, ◌++◌, replicate, Ok, Err, OnOk, Result, inl, refl, sym, ap, subst, ◌∙◌, ⊎_elim}
+use Rattle.std.proofs.Common.{◌≡◌, ℕ, ◌/◌, ◌<◌, cond, ltb, List, [], ◌∷◌, ◌++◌, replicate, Ok, Err, OnOk, Result, inl, inr, refl, sym, ap, subst, ◌∙◌, ⊎_elim, arith}
 use Rattle.contents.specs.Blocks.{blocks_of}
 use Rattle.devices.proofs.Traces.{trace_then, trace_stop}
 use Rattle.devices.specs.Meaning.{Meaning}
@@ -57,9 +57,10 @@ filled_shown steps M d e n size (Ok u) old new w did is = is ∙ sym (block_show
 filled_shown steps M d e n size (Err f) old new w did is = tt
 
 -- another answer to calls that were all accepted
-pub answered : {S X Y : Type 0} (did : S → Call → Result Unit Fault → S → Type 0) (cs : List Call) (d e : S) (x y : X) (z : Y) (own : Result Y Fault) → Ok z ≡ own → Trace did d cs (Ok x) (Ok y) e → Trace did d cs own (Ok z) e
-answered did [] d e x y z own is t = (is, t.1)
-answered did (c ∷ cs) d e x y z own is t = (t.0, t.1, answered did cs t.0 e x y z own is t.2)
+pub answered : {S X Y : Type 0} (did : S → Call → Result Unit Fault → S → Type 0) (cs : List Call) (d e : S) (x y : X) (own r : Result Y Fault) → r ≡ own → Trace did d cs (Ok x) (Ok y) e → Trace did d cs own r e
+answered did [] d e x y own r is t = (is, t.1)
+answered did (c ∷ cs) d e x y own (Ok z) is t = (t.0, t.1, answered did cs t.0 e x y own (Ok z) is t.2)
+answered did (c ∷ cs) d e x y own (Err f) is t = inr (t.0, t.1, answered did cs t.0 e x y own (Err f) is t.2)
 
 pub answer_is : {A : Type 0} {a b : A} → ◌≡◌ {A = Result A Fault} (Ok a) (Ok b) → a ≡ b
 answer_is {A} {a} e = ap (λ (r : Result A Fault). result_unwrap_or r a) e
@@ -81,3 +82,27 @@ module _ {S X Y : Type 0} (steps : Account S) (M : S → Meaning) (cs : List Cal
   pub read_accepted : (e : S) (z : Y) → Ok z ≡ own → did m (read n size) (Ok tt) e → Trace did d (cs ++ reads (n ∷ [])) own (Ok z) e
   read_accepted e z is s =
       trace_then did cs (reads (n ∷ [])) d m e x y own (Ok z) t (e, subst (λ (k : ℕ). did m (read n k) (Ok tt) e) whole s, (is, refl))
+
+-- a refusal by one of the calls is the answer, whatever the answer without it
+pub refused_too : {S X Y : Type 0} (did : S → Call → Result Unit Fault → S → Type 0) (cs : List Call) (d e : S) (x : X) (own : Result Y Fault) (f : Fault) → Trace did d cs (Ok x) (Err f) e → Trace did d cs own (Err f) e
+refused_too did [] d e x own f t = let q = t.0 in let z : ◌≡◌ {A = ℕ} 0 1 = cc in let no : ⊥ = omega arith in elim no [ ]
+refused_too {S} {X} did (c ∷ cs) d e x own f t =
+    ⊎_elim inl (λ (u : (m : S) × did d c (Ok tt) m × Trace {X = X} did m cs (Ok x) (Err f) e). inr (u.0, u.1, refused_too did cs u.0 e x own f u.2)) t
+
+-- one call that was accepted, before others
+pub first_then : {S Y : Type 0} (did : S → Call → Result Unit Fault → S → Type 0) (c : Call) (cs : List Call) (d m e : S) (own r : Result Y Fault) → did d c (Ok tt) m → Trace did m cs own r e → Trace did d (c ∷ cs) own r e
+first_then did c cs d m e own (Ok z) s t = (m, s, t)
+first_then did c cs d m e own (Err f) s t = inr (m, s, t)
+
+-- the answer made into another, where a refusal stays that refusal
+module _ {S X Y : Type 0} (did : S → Call → Result Unit Fault → S → Type 0) (h : Result X Fault → Result Y Fault) (keeps : (f : Fault) → h (Err f) ≡ Err f) where
+  pub mapped : (cs : List Call) (d e : S) (own r : Result X Fault) → Trace did d cs own r e → Trace did d cs (h own) (h r) e
+  mapped [] d e own r t = (ap h t.0, t.1)
+  mapped (c ∷ cs) d e own (Ok x) t = first_then did c cs d t.0 e (h own) (h (Ok x)) t.1 (mapped cs t.0 e own (Ok x) t.2)
+  mapped (c ∷ cs) d e own (Err f) t =
+      subst (λ (r : Result Y Fault). Trace did d (c ∷ cs) (h own) r e) (sym (keeps f))
+      (⊎_elim
+      inl
+      (λ (u : (m : S) × did d c (Ok tt) m × Trace {X = X} did m cs own (Err f) e).
+      inr (u.0, u.1, subst (λ (r : Result Y Fault). Trace did u.0 cs (h own) r e) (keeps f) (mapped cs u.0 e own (Err f) u.2)))
+      t)

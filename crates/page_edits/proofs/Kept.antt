@@ -14,10 +14,10 @@ use Rattle.page_edits.specs.Write.{size}
 use Rattle.std.proofs.lemmas.List.Elements.{filter_more}
 
 -- what a list takes of a page
-abbrev cost : List Pair → ℕ
+abbrev pub cost : List Pair → ℕ
 cost ps = 4 * length ps + size ps
 
-cost_kept : (f : Pair → Bool) (ps : List Pair) → cost (filter f ps) ≤ cost ps
+pub cost_kept : (f : Pair → Bool) (ps : List Pair) → cost (filter f ps) ≤ cost ps
 cost_kept f [] = omega arith
 cost_kept f (p ∷ ps) =
     elim (f p) as (λ b. cost (cond b (p ∷ filter f ps) (filter f ps)) ≤ cost (p ∷ ps)) [

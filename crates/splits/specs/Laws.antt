@@ -1,6 +1,6 @@
 -- What the writes of a store and of a delete make of the contents, also where they are cut short.
-use Rattle.std.specs.Prelude.{◌≡◌, ℕ, ◌+◌, ◌*◌, ◌<◌, ◌≤◌, Bool, true, false, cond, List, [], length, take, None, Some}
-use Rattle.contents.specs.Contents.{Contents, held, home}
+use Rattle.std.specs.Prelude.{◌≡◌, ℕ, ◌+◌, ◌<◌, ◌≤◌, Bool, true, false, cond, List, [], length, take, None, Some}
+use Rattle.contents.specs.Contents.{Contents, held}
 use Rattle.directory.specs.Tree.{NoneUnder, depth_of}
 use Rattle.keys.specs.Hash.{hash}
 use Rattle.keys.specs.Same.{same}

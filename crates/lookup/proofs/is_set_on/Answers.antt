@@ -11,4 +11,4 @@ pub returns-clause-made : goal.returns-clause-made
 returns-clause-made g c =
     let blocks = blocks_of (g.D.Device.meaning c.args.device.now) in
     let is : c.is_set.result ≡ bits_in blocks c.args.i = c.is_set.ensures ∙ ap (λ (s : List ℕ). bits_of s (c.args.i % 8192)) c.in_ok-turn_to.ensures.block ∙ sym (bit_is blocks c.args.i c.requires.range) in
-    answered (Did g.D.Device.steps g.D.Device.meaning) (reads (another c.args.last (c.args.i / 8192))) c.args.device.now c.turn_to.new.device tt tt c.is_set.result (Ok (bits_in blocks c.args.i)) (ap Ok is) c.in_ok-turn_to.ensures.made
+    answered (Did g.D.Device.steps g.D.Device.meaning) (reads (another c.args.last (c.args.i / 8192))) c.args.device.now c.turn_to.new.device tt tt (Ok (bits_in blocks c.args.i)) (Ok c.is_set.result) (ap Ok is) c.in_ok-turn_to.ensures.made

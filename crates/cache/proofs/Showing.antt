@@ -108,7 +108,7 @@ shown_whole (f ∷ fs) n b all h = shown_whole fs n (cond (eqb n f.number) f.blo
     one_of false a = h
 
 pub cached_sound : (fs : List Frame) (d : Meaning) → ((i : ℕ) → i < length fs → length (at fs i).block ≡ 1024) → Sound d → Sound (cached fs d)
-cached_sound fs d all s = record { bounded = s.bounded; inside = s.inside; whole = λ n l. by n (d.held n) (s.whole n l) }
+cached_sound fs d all s = record { bounded = s.bounded; inside = s.inside; whole = λ n l. by n (d.held n) (s.whole n l); spent = s.spent }
   where
     by : (n : ℕ) (t : Bool) → length (d.block n) ≡ 1024 → length (cond t (shown fs n (d.block n)) (d.block n)) ≡ 1024
     by n true h = shown_whole fs n (d.block n) all h

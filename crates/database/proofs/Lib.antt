@@ -1,1 +1,5 @@
 pub mod Fetches
+pub mod Finds
+pub mod Visits
+pub mod Steps
+pub mod Walks

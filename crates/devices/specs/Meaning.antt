@@ -2,6 +2,7 @@
 use Rattle.std.specs.Prelude.{◌≡◌, ℕ, ◌<◌, ◌≤◌, Bool, true, false, cond, List, length, replicate, ◌==◌}
 use Rattle.faults.specs.declared.Fault.{Fault}
 use Rattle.faults.specs.declared.Layer.{Layer}
+use Rattle.faults.specs.declared.Refusal.TheVariants.{NoClaim}
 
 pub record Meaning : Type 0 where
   -- the numbers below the limit have a block
@@ -25,11 +26,12 @@ pub record Meaning : Type 0 where
 abbrev pub put : {X : Type 0} → (ℕ → X) → ℕ → X → ℕ → X
 put f n v k = cond (k == n) v (f k)
 
--- what holds of every device: a bounded limit, held numbers below it, and whole blocks
+-- what holds of every device: a bounded limit, held numbers below it, whole blocks, and one refusal for want of a claim
 pub record Sound (d : Meaning) : Type 0 where
   pub bounded : d.limit ≤ 65544
   pub inside : (n : ℕ) → d.held n ≡ true → n < d.limit
   pub whole : (n : ℕ) → n < d.limit → length (d.block n) ≡ 1024
+  pub spent : (n : ℕ) → (d.spent n).refusal ≡ NoClaim
 
 -- the block of a number that is not held is zeros; apart from the rest, since not every device will keep to it
 abbrev pub Zeroed : Meaning → Type 0

@@ -26,6 +26,7 @@ sound s = record {
   bounded = blocks_at_most s;
   inside = λ n h. ltb-true n (blocks s) h;
   whole = block_length s;
+  spent = λ n. refl;
 }
 
 -- a block as the code cuts it

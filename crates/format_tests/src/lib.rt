@@ -14,4 +14,6 @@ mod images;
 #[cfg(test)]
 mod reading;
 #[cfg(test)]
+mod values;
+#[cfg(test)]
 mod writing;

@@ -141,7 +141,7 @@ module _ (s : List ℕ) where
       (zero_or (slot_in s n))
 
   pub sound_of : Sound (meaning_of s)
-  sound_of = record { bounded = limit_le; inside = held_inside; whole = λ n _. block_whole n }
+  sound_of = record { bounded = limit_le; inside = held_inside; whole = λ n _. block_whole n; spent = λ n. refl }
 
   pub zeroed_of : Zeroed (meaning_of s)
   zeroed_of n l h = ap (block_of s) (unheld_slot n h) ∙ block_none

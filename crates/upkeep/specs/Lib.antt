@@ -1,0 +1,3 @@
+pub mod Holding
+pub mod Refusals
+pub mod Laws

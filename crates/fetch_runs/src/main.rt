@@ -25,7 +25,7 @@ use std::alloc::AllocError;
 use tally::{Tally, count};
 
 // How many databases of each state are run, each on a stack of its own.
-const ROUNDS: u32 = 20;
+const ROUNDS: u32 = 200;
 
 // So many blocks of a database are stale at most: more than a cache has frames.
 const MOST_STALE: u32 = 12;

@@ -1,4 +1,6 @@
 // A plain model of a database on a stack of devices: the blocks that the stack shows, and what each call answers of them.
+ghost use Rattle.std.specs.Prelude.{◌<◌};
+
 use crate::blocks::{BLOCK, Numbered, byte_at, number_at};
 use crate::trail::Trail;
 use database::{Position, Stepped};
@@ -313,7 +315,10 @@ fn low(hash: u32, depth: u32) -> u32 {
     hash % power(depth)
 }
 
-fn power(depth: u32) -> u32 {
+// The power of two of a depth.
+fn power(depth: u32) -> u32
+    ensures { 0 < result }
+{
     1 << depth.min(DEPTH)
 }
 

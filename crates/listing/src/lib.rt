@@ -3,6 +3,7 @@
 
 mod files;
 mod lister;
+mod reading;
 mod stacks;
 pub mod text;
 mod wanted;

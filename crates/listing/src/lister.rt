@@ -1,12 +1,15 @@
 // A database told of: its pairs, and the values of names.
+ghost use Rattle.std.specs.Prelude.{◌≡◌, ◌+◌, ◌≤◌, IfSome};
+
 use crate::Request;
+use crate::reading::{Shown, next_pair};
 use crate::text::{first_line, quoted};
 use crate::wanted::{Value, Wanted};
-use database::{Database, Position, Stepped};
+use database::Database;
 use devices::Device;
 use faults::Fault;
 use lookup::DIRECTORY_BLOCKS;
-use pages::{PAGE, Place, view};
+use pages::PAGE;
 use records::{Member, Symbol};
 use std::alloc::Global;
 use std::io;
@@ -88,28 +91,20 @@ impl<'a, W: Write, D: Device + Drop> Lister<'a, W, D> {
 
     // The same from a page on, to the end or to the first refusal, which is then the answer.
     fn tell_pairs_from(&mut self, page: u32, shown: &mut usize) -> anyhow::Result<Option<Fault>> {
+        // A loop: each step begins where the last one ended, and an iterator of the pairs would have to say again, in clauses
+        // of its own, what a step promises.
         let mut at = (page, 0);
         loop {
-            match self.database.step(at, &mut self.page) {
-                Ok(Stepped::Pair((key, value, next))) => {
-                    self.show_pair(key, value, next)?;
+            match next_pair(&mut self.database, at, &mut self.page) {
+                Ok(Some(pair)) => {
+                    show_pair(self.heap, self.out, &pair)?;
                     *shown = shown.saturating_add(1);
-                    at = next;
+                    at = pair.next;
                 }
-                Ok(Stepped::End) => return Ok(None),
+                Ok(None) => return Ok(None),
                 Err(fault) => return Ok(Some(fault)),
             }
         }
-    }
-
-    // Shows the pair before a position, whose page was read last.
-    fn show_pair(&mut self, key: Place, value: Place, next: Position) -> anyhow::Result<()> {
-        let (page, after) = next;
-        let number = after.saturating_sub(1);
-        let key = quoted(self.heap, view(&self.page, key)?)?;
-        let value = quoted(self.heap, view(&self.page, value)?)?;
-        writeln!(self.out, "page {page} pair {number}: {key} = {value}")?;
-        Ok(())
     }
 
     fn tell_end(&mut self, pairs: &Pairs) -> io::Result<()> {
@@ -184,8 +179,20 @@ impl<'a, W: Write, D: Device + Drop> Lister<'a, W, D> {
     }
 }
 
+// Shows a pair, which stands before its next position.
+fn show_pair<W: Write>(heap: Global, out: &mut W, pair: &Shown) -> anyhow::Result<()> {
+    let (page, after) = pair.next;
+    let number = after.saturating_sub(1);
+    let key = quoted(heap, pair.key)?;
+    let value = quoted(heap, pair.value)?;
+    writeln!(out, "page {page} pair {number}: {key} = {value}")?;
+    Ok(())
+}
+
 // The page that a refusal names, if it is one from a page on.
-fn refused_page(fault: &Fault, first: u32) -> Option<u32> {
+fn refused_page(fault: &Fault, first: u32) -> Option<u32>
+    ensures { IfSome result (λ page. (first ≤ page) × (page + 4 ≡ fault.now.block)) }
+{
     let page = fault.block.checked_sub(DIRECTORY_BLOCKS)?;
     (page >= first).then_some(page)
 }

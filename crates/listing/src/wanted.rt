@@ -1,9 +1,10 @@
 // What is told of a name: the bytes of its value, or the record that they are the code of.
+use crate::reading::value_of;
 use crate::text::hex;
 use database::Database;
 use devices::Device;
 use faults::Fault;
-use pages::{PAGE, view};
+use pages::PAGE;
 use records::{Member, Record, Sort, Symbol};
 use std::alloc::{AllocError, Global};
 
@@ -72,18 +73,6 @@ impl Wanted for Member {
             Ok(None) => Ok(Ok(None)),
             Err(fault) => Ok(Err(fault)),
         }
-    }
-}
-
-// The value of a name, as it lies in its home page, which is then in the buffer.
-fn value_of<'a, D: Device>(
-    database: &mut Database<D>,
-    name: &[u8],
-    page: &'a mut [u8; PAGE],
-) -> Result<Option<&'a [u8]>, Fault> {
-    match database.fetch(name, page)? {
-        Some(place) => Ok(Some(view(page, place)?)),
-        None => Ok(None),
     }
 }
 

@@ -1,4 +1,4 @@
-// Which blocks were read, in order.
+// Which blocks were read, in order: how many, and their numbers mixed.
 
 #[derive(Clone, Copy, PartialEq, Eq, Debug, Default)]
 pub struct Trail {
@@ -11,9 +11,5 @@ impl Trail {
     pub fn note(&mut self, n: u32) {
         self.reads = self.reads.saturating_add(1);
         self.mixed = self.mixed.wrapping_mul(31).wrapping_add(u64::from(n));
-    }
-
-    pub fn reads(&self) -> u64 {
-        self.reads
     }
 }

@@ -94,7 +94,7 @@ fn member_text(heap: Global, member: Member) -> Result<String, AllocError> {
     let sort = match sort {
         Sort::Object => "object",
         Sort::Data => "data",
-        Sort::Other => "neither",
+        Sort::Other => "other",
     };
     format!(in heap; "offset {offset}, length {length}, {sort}")
 }

@@ -1,9 +1,10 @@
 #!/usr/bin/env python3
 """Lists an sdbm database and looks names up in it: written directly from the format, with no tricks.
 
-usage: reference_list.py DIR PAG [NAMES-FILE]
+usage: reference_list.py [--go-on] [--symbol=NAME].. [--member=NAME].. DIR PAG [NAMES-FILE]
 
-The names stand one per line in NAMES-FILE, or on standard input without it.
+The names stand one per line in NAMES-FILE, or on standard input without it. With --go-on the listing goes on past refused
+pages. The values of the other names are told as records.
 """
 
 import sys
@@ -16,6 +17,8 @@ FIRST_PAGE_BLOCK = 4
 NOT_GOOD = "refused 6 by the database at block {}: the page is not good"
 PAST_END = "refused 9 by the bottom device at block {}: the block's number is not below the limit"
 EMPTY_NAME = "refused 1 by the database at block 0: the key is empty"
+NO_CODE = "refused 13 by the database at block {}: the value is no code of this kind"
+SORTS = ["object", "data", "other"]
 
 
 def number_at(data, at):
@@ -120,7 +123,62 @@ class Database:
         return lookup(self.directory, hash_of(key))
 
 
-def listing(dir_path, pag_path, names):
+def signed(number, bits):
+    return number - 2**bits if number >= 2 ** (bits - 1) else number
+
+
+def long_at(data, at):
+    return number_at(data, at) + 65536 * number_at(data, at + 2)
+
+
+def symbol_text(value):
+    """A symbol's record as text, or None."""
+    if len(value) != 10:
+        return None
+    address, section, addend = long_at(value, 0), number_at(value, 4), signed(long_at(value, 6), 32)
+    return f"address 0x{address:08x}, section {section}, addend {addend}"
+
+
+def member_text(value):
+    """A library member's record as text, or None."""
+    if len(value) != 9 or value[8] >= len(SORTS):
+        return None
+    return f"offset {long_at(value, 0)}, length {long_at(value, 4)}, {SORTS[value[8]]}"
+
+
+def value_text(value):
+    return value.hex() or "(empty)"
+
+
+def look_up(database, word, names, text):
+    """The lines for some names, and their count in words."""
+    lines = []
+    found = not_there = refused = 0
+    for name in names:
+        if name == b"":
+            answer = EMPTY_NAME
+            refused += 1
+        else:
+            home = database.home(name)
+            pairs, refusal = database.page(home)
+            values = dict(pairs or [])
+            if refusal is not None:
+                answer = refusal
+                refused += 1
+            elif name not in values:
+                answer = "not there"
+                not_there += 1
+            elif text(values[name]) is None:
+                answer = NO_CODE.format(FIRST_PAGE_BLOCK + home)
+                refused += 1
+            else:
+                answer = text(values[name])
+                found += 1
+        lines.append(f"{word} {shown(name)}: {answer}")
+    return lines, f"{word}s: {found} found, {not_there} not there, {refused} refused"
+
+
+def listing(dir_path, pag_path, names, symbols=(), members=(), go_on=False):
     """The lines to print."""
     lines = []
 
@@ -153,10 +211,14 @@ def listing(dir_path, pag_path, names):
     if missing:
         lines.append(f"{pag_path}: {len(missing)} reachable pages lie past the end, from page {missing[0]} on")
 
-    pairs_shown = 0
+    pairs_shown = pages_refused = 0
     stopped = None
     for p in reachable:
         pairs, refusal = database.page(p)
+        if refusal is not None and go_on:
+            lines.append(f"page {p}: {refusal}")
+            pages_refused += 1
+            continue
         if refusal is not None:
             stopped = f"stopped at page {p}: {refusal}"
             break
@@ -165,40 +227,38 @@ def listing(dir_path, pag_path, names):
                 lines.append(f"page {p} pair {k}: {shown(key)} = {shown(value)}")
                 pairs_shown += 1
 
-    found = not_there = refused = 0
-    for name in names:
-        if name == b"":
-            answer = EMPTY_NAME
-            refused += 1
-        else:
-            pairs, refusal = database.page(database.home(name))
-            if refusal is not None:
-                answer = refusal
-                refused += 1
-            else:
-                values = dict(pairs)
-                if name in values:
-                    answer = values[name].hex() or "(empty)"
-                    found += 1
-                else:
-                    answer = "not there"
-                    not_there += 1
-        lines.append(f"name {shown(name)}: {answer}")
+    counts = []
+    for word, asked, text in [
+        ("name", names, value_text),
+        ("symbol", symbols, symbol_text),
+        ("member", members, member_text),
+    ]:
+        told, count = look_up(database, word, asked, text)
+        lines += told
+        if asked or word == "name":
+            counts.append(count)
 
-    lines.append(f"pairs: {pairs_shown} shown, {stopped or 'listed to the end'}")
-    lines.append(f"names: {found} found, {not_there} not there, {refused} refused")
-    return lines
+    end = stopped or "listed to the end"
+    if pages_refused:
+        end += f", {pages_refused} pages refused"
+    lines.append(f"pairs: {pairs_shown} shown, {end}")
+    return lines + counts
 
 
 def main():
-    if len(sys.argv) not in (3, 4):
+    words = sys.argv[1:]
+    go_on = "--go-on" in words
+    symbols = [word[9:].encode() for word in words if word.startswith("--symbol=")]
+    members = [word[9:].encode() for word in words if word.startswith("--member=")]
+    files = [word for word in words if not word.startswith("--")]
+    if len(files) not in (2, 3):
         sys.exit(__doc__.strip())
-    if len(sys.argv) == 4:
-        with open(sys.argv[3], "rb") as file:
+    if len(files) == 3:
+        with open(files[2], "rb") as file:
             names = split_names(file.read())
     else:
         names = split_names(sys.stdin.buffer.read())
-    for line in listing(sys.argv[1], sys.argv[2], names):
+    for line in listing(files[0], files[1], names, symbols, members, go_on):
         sys.stdout.buffer.write(line.encode("utf-8", "surrogateescape") + b"\n")
 
 

@@ -1,6 +1,11 @@
 // Two files together: bit 0 of the directory is set, so that even hashes are at home on page 0 and odd ones on page 1.
 use crate::building::{Numbers, page_of, told};
-use image::Image;
+use database::{Database, Position, Stepped};
+use flat::Flat;
+use image::{joined, reachable_from};
+use pages::view;
+use std::alloc::{AllocError, Global};
+use std::test::Fail;
 
 // Page 0 has the stray pair (a, 3) and the pair (b, 4); page 1 has (a, 12), the stray (d, 5) and (c, empty).
 fn pages() -> [u8; 3072] {
@@ -23,127 +28,159 @@ fn cut(pages: &[u8; 3072]) -> &[u8] {
     &pages[..2047]
 }
 
+// The database in two files.
+fn open(heap: Global, dir: &[u8], pag: &[u8]) -> Result<Database<Flat>, AllocError> {
+    let image = joined(heap, dir, pag)?;
+    Ok(Database::new(Flat::new(image)))
+}
+
+// The value of a key, or the refusal.
+fn value<'a>(
+    files: &mut Database<Flat>,
+    key: &[u8],
+    page: &'a mut [u8; 1024],
+) -> Result<Option<&'a [u8]>, Numbers> {
+    match told(files.fetch(key, page))? {
+        Some(place) => Ok(Some(told(view(page, place))?)),
+        None => Ok(None),
+    }
+}
+
 // The place of the next pair, or the refusal; no place at the end.
-fn next(image: &Image, page: u32, number: usize) -> Result<Option<(u32, usize)>, Numbers> {
-    let next = told(image.next_pair(page, number))?;
-    Ok(next.map(|pair| (pair.page, pair.number)))
+fn next(files: &mut Database<Flat>, at: Position) -> Result<Option<(u32, u32)>, Numbers> {
+    let mut page = [0; 1024];
+    match told(files.step(at, &mut page))? {
+        Stepped::Pair((_, _, (page, after))) => Ok(Some((page, after.saturating_sub(1)))),
+        Stepped::End => Ok(None),
+    }
 }
 
 // The key and the value of the next pair, or the refusal.
 fn pair<'a>(
-    image: &Image<'a>,
-    page: u32,
-    number: usize,
+    files: &mut Database<Flat>,
+    at: Position,
+    page: &'a mut [u8; 1024],
 ) -> Result<Option<(&'a [u8], &'a [u8])>, Numbers> {
-    let next = told(image.next_pair(page, number))?;
-    Ok(next.map(|pair| (pair.key, pair.value)))
+    match told(files.step(at, page))? {
+        Stepped::Pair((key, value, _)) => {
+            Ok(Some((told(view(page, key))?, told(view(page, value))?)))
+        }
+        Stepped::End => Ok(None),
+    }
 }
 
 #[test]
-fn values(rt: HostRuntime) {
-    let pag = pages();
-    let image = Image {
-        dir: &[1],
-        pag: &pag,
-    };
+fn values(rt: HostRuntime) -> Result<(), Fail> {
+    let mut page = [0; 1024];
+    let mut files = open(rt.alloc(), &[1], &pages())?;
     assert_eq!(rt;
-        told(image.value_of(b"a")),
+        value(&mut files, b"a", &mut page),
         Ok(Some(b"12".as_slice())),
         "and not the stray pair's"
     );
-    assert_eq!(rt; told(image.value_of(b"b")), Ok(Some(b"4".as_slice())));
-    assert_eq!(rt; told(image.value_of(b"c")), Ok(Some(b"".as_slice())));
-    assert_eq!(rt; told(image.value_of(b"d")), Ok(None), "a stray pair");
-    assert_eq!(rt; told(image.value_of(b"e")), Ok(None));
-    assert_eq!(rt; told(image.value_of(b"")), Err((1, 0, 0)));
-}
-
-#[test]
-fn next_places(rt: HostRuntime) {
-    let pag = pages();
-    let image = Image {
-        dir: &[1],
-        pag: &pag,
-    };
-    assert_eq!(rt; next(&image, 0, 0), Ok(Some((0, 1))), "past the stray pair");
-    assert_eq!(rt; next(&image, 0, 2), Ok(Some((1, 0))), "from page to page");
-    assert_eq!(rt; next(&image, 1, 1), Ok(Some((1, 2))));
-    assert_eq!(rt; next(&image, 1, 3), Ok(None));
-    assert_eq!(rt; next(&image, 32768, 0), Ok(None));
-    assert_eq!(rt; next(&image, u32::MAX, usize::MAX), Ok(None));
-}
-
-#[test]
-fn next_pairs(rt: HostRuntime) {
-    let pag = pages();
-    let image = Image {
-        dir: &[1],
-        pag: &pag,
-    };
     assert_eq!(rt;
-        pair(&image, 0, 0),
+        value(&mut files, b"b", &mut page),
+        Ok(Some(b"4".as_slice()))
+    );
+    assert_eq!(rt;
+        value(&mut files, b"c", &mut page),
+        Ok(Some(b"".as_slice()))
+    );
+    assert_eq!(rt;
+        value(&mut files, b"d", &mut page),
+        Ok(None),
+        "a stray pair"
+    );
+    assert_eq!(rt; value(&mut files, b"e", &mut page), Ok(None));
+    assert_eq!(rt; value(&mut files, b"", &mut page), Err((1, 0, 0)));
+    Ok(())
+}
+
+#[test]
+fn next_places(rt: HostRuntime) -> Result<(), Fail> {
+    let mut files = open(rt.alloc(), &[1], &pages())?;
+    assert_eq!(rt;
+        next(&mut files, (0, 0)),
+        Ok(Some((0, 1))),
+        "past the stray pair"
+    );
+    assert_eq!(rt;
+        next(&mut files, (0, 2)),
+        Ok(Some((1, 0))),
+        "from page to page"
+    );
+    assert_eq!(rt; next(&mut files, (1, 1)), Ok(Some((1, 2))));
+    assert_eq!(rt; next(&mut files, (1, 3)), Ok(None));
+    assert_eq!(rt; next(&mut files, (32768, 0)), Ok(None));
+    assert_eq!(rt; next(&mut files, (u32::MAX, u32::MAX)), Ok(None));
+    Ok(())
+}
+
+#[test]
+fn next_pairs(rt: HostRuntime) -> Result<(), Fail> {
+    let mut page = [0; 1024];
+    let mut files = open(rt.alloc(), &[1], &pages())?;
+    assert_eq!(rt;
+        pair(&mut files, (0, 0), &mut page),
         Ok(Some((b"b".as_slice(), b"4".as_slice())))
     );
     assert_eq!(rt;
-        pair(&image, 0, 2),
+        pair(&mut files, (0, 2), &mut page),
         Ok(Some((b"a".as_slice(), b"12".as_slice())))
     );
     assert_eq!(rt;
-        pair(&image, 1, 1),
+        pair(&mut files, (1, 1), &mut page),
         Ok(Some((b"c".as_slice(), b"".as_slice())))
     );
+    Ok(())
 }
 
 #[test]
-fn cut_pages(rt: HostRuntime) {
-    let pag = pages();
-    let image = Image {
-        dir: &[1],
-        pag: cut(&pag),
-    };
-    assert_eq!(rt; told(image.value_of(b"a")), Err((9, 1, 5)));
-    assert_eq!(rt; told(image.value_of(b"")), Err((1, 0, 0)));
-    assert_eq!(rt; told(image.value_of(b"b")), Ok(Some(b"4".as_slice())));
-    assert_eq!(rt; next(&image, 0, 0), Ok(Some((0, 1))));
-    assert_eq!(rt; next(&image, 0, 2), Err((9, 1, 5)));
-    let blank = Image { dir: &[], pag: &[] };
-    assert_eq!(rt; told(blank.value_of(b"a")), Err((9, 1, 4)));
+fn cut_pages(rt: HostRuntime) -> Result<(), Fail> {
+    let mut page = [0; 1024];
+    let mut files = open(rt.alloc(), &[1], cut(&pages()))?;
+    assert_eq!(rt; value(&mut files, b"a", &mut page), Err((9, 1, 5)));
+    assert_eq!(rt; value(&mut files, b"", &mut page), Err((1, 0, 0)));
+    assert_eq!(rt;
+        value(&mut files, b"b", &mut page),
+        Ok(Some(b"4".as_slice()))
+    );
+    assert_eq!(rt; next(&mut files, (0, 0)), Ok(Some((0, 1))));
+    assert_eq!(rt; next(&mut files, (0, 2)), Err((9, 1, 5)));
+    let mut blank = open(rt.alloc(), &[], &[])?;
+    assert_eq!(rt; value(&mut blank, b"a", &mut page), Err((9, 1, 4)));
+    Ok(())
 }
 
 #[test]
-fn bad_page(rt: HostRuntime) {
+fn bad_page(rt: HostRuntime) -> Result<(), Fail> {
     let pag = join(
         &page_of(&[2, 1023, 1022], b"4b"),
         &page_of(&[2, 1023, 5], b"a"),
     );
-    let image = Image {
-        dir: &[1],
-        pag: &pag,
-    };
-    assert_eq!(rt; told(image.value_of(b"a")), Err((6, 0, 5)));
-    assert_eq!(rt; told(image.value_of(b"b")), Ok(Some(b"4".as_slice())));
-    assert_eq!(rt; next(&image, 0, 0), Ok(Some((0, 0))));
-    assert_eq!(rt; next(&image, 0, 1), Err((6, 0, 5)));
-    let whole = Image {
-        dir: &[],
-        pag: &pag,
-    };
+    let mut page = [0; 1024];
+    let mut files = open(rt.alloc(), &[1], &pag)?;
+    assert_eq!(rt; value(&mut files, b"a", &mut page), Err((6, 0, 5)));
     assert_eq!(rt;
-        next(&whole, 0, 1),
+        value(&mut files, b"b", &mut page),
+        Ok(Some(b"4".as_slice()))
+    );
+    assert_eq!(rt; next(&mut files, (0, 0)), Ok(Some((0, 0))));
+    assert_eq!(rt; next(&mut files, (0, 1)), Err((6, 0, 5)));
+    let mut whole = open(rt.alloc(), &[], &pag)?;
+    assert_eq!(rt;
+        next(&mut whole, (0, 1)),
         Ok(None),
         "a bad page that is not reachable"
     );
+    Ok(())
 }
 
 #[test]
 fn reachable(rt: HostRuntime) {
-    let image = Image {
-        dir: &[5],
-        pag: &[],
-    };
-    assert_eq!(rt; image.reachable_from(0), Some(0));
-    assert_eq!(rt; image.reachable_from(1), Some(1));
-    assert_eq!(rt; image.reachable_from(2), Some(3));
-    assert_eq!(rt; image.reachable_from(4), None);
-    assert_eq!(rt; image.reachable_from(u32::MAX), None);
+    assert_eq!(rt; reachable_from(&[5], 0), Some(0));
+    assert_eq!(rt; reachable_from(&[5], 1), Some(1));
+    assert_eq!(rt; reachable_from(&[5], 2), Some(3));
+    assert_eq!(rt; reachable_from(&[5], 4), None);
+    assert_eq!(rt; reachable_from(&[5], u32::MAX), None);
 }

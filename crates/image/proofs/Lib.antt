@@ -1,1 +1,2 @@
-pub mod Images
+mod Laws
+mod Pages

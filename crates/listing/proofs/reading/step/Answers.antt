@@ -1,5 +1,5 @@
 use Rattle.std.proofs.Common.{length}
-use Rattle.database.specs.Step.{stepped}
+use Rattle.calls.specs.Step.{stepped}
 use Rattle.listing.proofs.Steps.{step_keeps}
 use Rattle.listing.proofs.reading.step.Goals as goal
 

@@ -3,3 +3,4 @@ pub mod Quieted
 pub mod Walked
 pub mod Each
 pub mod Story
+pub mod Wrapped

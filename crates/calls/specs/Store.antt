@@ -111,11 +111,11 @@ unfoldable pub change_calls : Blocks → List ℕ → List ℕ → ℕ → List 
 change_calls blocks key value s =
     under_calls (bits_in blocks) (hash key) (home_depth blocks key) s
     ++ elim (bits_clear (bits_in blocks) (hash key) (home_depth blocks key) s) as (λ _. List Call) [
-      Ok _ ↦
-        claims (hash key) (home_depth blocks key) s
-        ++ (split_writes blocks (home_pairs blocks key) (hash key) (home_depth blocks key) s
-        ++ last_write (home_pairs blocks key) key value (home_depth blocks key + s) ∷ [])
-    | Err _ ↦ []
+      | Ok _ ↦
+          claims (hash key) (home_depth blocks key) s
+          ++ (split_writes blocks (home_pairs blocks key) (hash key) (home_depth blocks key) s
+          ++ last_write (home_pairs blocks key) key value (home_depth blocks key + s) ∷ [])
+      | Err _ ↦ []
     ]
 
 unfoldable pub store_calls : Blocks → List ℕ → List ℕ → Mode → List Call

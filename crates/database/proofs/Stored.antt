@@ -89,7 +89,7 @@ module _ (blocks : Blocks) (key value : List ℕ) (mode : Mode) where
           let rest : List Call = unless_refused (planned blocks key value mode) (change_calls blocks key value) in
           let none : rest ≡ [] = ap (λ (o : Result ℕ Fault). unless_refused o (change_calls blocks key value)) bad in
           let answer : Err f ≡ stored blocks key value mode =
-              sym (answer_allowed ∙ ap (λ (o : Result ℕ Fault). by_splits o (bits_clear (bits_in blocks) (hash key) (home_depth blocks key))) bad) in
+          sym (answer_allowed ∙ ap (λ (o : Result ℕ Fault). by_splits o (bits_clear (bits_in blocks) (hash key) (home_depth blocks key))) bad) in
           subst (λ (cs : List Call). Trace did d cs (stored blocks key value mode) (Err f) e) (sym calls_allowed)
           (trace_then did (home_calls blocks (hash key)) rest d e e tt tt (stored blocks key value mode) (Err f) t
           (subst (λ (cs : List Call). Trace did e cs (stored blocks key value mode) (Err f) e) (sym none) (answer, refl)))
@@ -102,7 +102,7 @@ module _ (blocks : Blocks) (key value : List ℕ) (mode : Mode) where
           let rest : List Call = unless_refused (planned blocks key value mode) (change_calls blocks key value) in
           let some : rest ≡ change_calls blocks key value s = ap (λ (o : Result ℕ Fault). unless_refused o (change_calls blocks key value)) good in
           let answer : bits_clear (bits_in blocks) (hash key) (home_depth blocks key) s ≡ stored blocks key value mode =
-              sym (answer_allowed ∙ ap (λ (o : Result ℕ Fault). by_splits o (bits_clear (bits_in blocks) (hash key) (home_depth blocks key))) good) in
+          sym (answer_allowed ∙ ap (λ (o : Result ℕ Fault). by_splits o (bits_clear (bits_in blocks) (hash key) (home_depth blocks key))) good) in
           subst (λ (cs : List Call). Trace did d cs (stored blocks key value mode) r e) (sym calls_allowed)
           (trace_then did (home_calls blocks (hash key)) rest d m e tt tt (stored blocks key value mode) r t
           (subst (λ (cs : List Call). Trace did m cs (stored blocks key value mode) r e) (sym some)

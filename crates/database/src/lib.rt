@@ -14,7 +14,6 @@ ghost use Rattle.devices.specs.Step.{flush as Flushes};
 ghost use Rattle.lookup.specs.Made.{Made};
 
 pub use calls::{Position, Stepped};
-
 use devices::Device;
 use faults::Fault;
 

@@ -21,11 +21,7 @@ pub const DIRECTORY_BLOCKS: u32 = 4;
 const BITS: u32 = 8192;
 
 // Looks a hash up. The buffer is for the directory's blocks: afterwards it has that of the bit at which the lookup ended.
-pub fn look_up<D: Device>(
-    device: &mut D,
-    hash: u32,
-    block: &mut [u8; BLOCK],
-) -> Result<Leaf, Fault>
+pub fn look_up<D: Device>(device: &mut D, hash: u32, block: &mut [u8; BLOCK]) -> Result<Leaf, Fault>
     ensures made { Made D.Device.steps D.Device.meaning device.old (λ blocks. lookup_calls blocks hash) (λ blocks. Ok (leaf_of (bits_in blocks) hash)) result device.new }
     ensures block { OnOk result (depth_of (bits_in (blocks_of (D.Device.meaning device.old))) hash < 15 → block.new ≡ blocks_of (D.Device.meaning device.old) (index_of (bits_in (blocks_of (D.Device.meaning device.old))) hash / 8192)) }
 {

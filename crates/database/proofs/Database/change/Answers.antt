@@ -40,11 +40,11 @@ make_room-requires-clause-directory g c = λ above.
     let h = hash c.args.key.now in
     let depth = ap (λ (l : Leaf). l.depth) c.requires.leaf in
     let index : c.args.leaf.now.index ≡ c.way_to.result.index =
-        ap (λ (l : Leaf). l.index) c.requires.leaf
-        ∙ index_on_way bits h
-        ∙ ap (node h) (sym (c.way_to.ensures.1 ∙ depth))
-        ∙ ap (λ (k : ℕ). node k c.way_to.result.depth) (sym (c.way_to.ensures.0 ∙ c.hash_of.ensures))
-        ∙ sym c.way_to.result.on in
+    ap (λ (l : Leaf). l.index) c.requires.leaf
+    ∙ index_on_way bits h
+    ∙ ap (node h) (sym (c.way_to.ensures.1 ∙ depth))
+    ∙ ap (λ (k : ℕ). node k c.way_to.result.depth) (sym (c.way_to.ensures.0 ∙ c.hash_of.ensures))
+    ∙ sym c.way_to.result.on in
     c.requires.directory (omega (arith, c.way_to.ensures.1)) ∙ ap (λ (i : ℕ). blocks (i / 8192)) index
 
 pub overflow_add-leaf : goal.overflow_add-leaf
@@ -98,8 +98,8 @@ returns-in_err-make_room g c =
     let same = room_of blocks key _ _ _ s pairs h t in
     let room = room_calls blocks (home_pairs blocks key) (hash key) (home_depth blocks key) s in
     let made : Trace {X = Unit} did d room own (Err f) e =
-        subst (λ (o : Result Unit Fault). Trace did d room o (Err f) e) same.1
-        (subst (λ (cs : List Call). Trace {X = Unit} did d cs (bits_clear (bits_in blocks) c.way_to.result.hash c.way_to.result.depth s) (Err f) e) same.0 c.in_err-make_room.ensures) in
+    subst (λ (o : Result Unit Fault). Trace did d room o (Err f) e) same.1
+    (subst (λ (cs : List Call). Trace {X = Unit} did d cs (bits_clear (bits_in blocks) c.way_to.result.hash c.way_to.result.depth s) (Err f) e) same.0 c.in_err-make_room.ensures) in
     subst (λ (r : Result Unit Fault). Trace did d (change_calls blocks key c.args.value.now s) own r e) (sym is)
     (subst (λ (cs : List Call). Trace did d cs own (Err f) e) (sym (change_is blocks key c.args.value.now s))
     (refused_before did room (λ _. last_write (home_pairs blocks key) key c.args.value.now (home_depth blocks key + s) ∷ []) own d e f own (λ g q. q) made))
@@ -123,13 +123,13 @@ returns g c =
     let same = room_of blocks key _ _ _ s pairs h t in
     let room = room_calls blocks (home_pairs blocks key) (hash key) (home_depth blocks key) s in
     let made : Trace {X = Unit} did d room own (Ok tt) m =
-        subst (λ (o : Result Unit Fault). Trace did d room o (Ok tt) m) same.1
-        (subst (λ (cs : List Call). Trace {X = Unit} did d cs (bits_clear (bits_in blocks) c.way_to.result.hash c.way_to.result.depth s) (Ok tt) m) same.0 c.in_ok-make_room.ensures) in
+    subst (λ (o : Result Unit Fault). Trace did d room o (Ok tt) m) same.1
+    (subst (λ (cs : List Call). Trace {X = Unit} did d cs (bits_clear (bits_in blocks) c.way_to.result.hash c.way_to.result.depth s) (Ok tt) m) same.0 c.in_ok-make_room.ensures) in
     let clear : Ok tt ≡ own = own_answer did room d m tt own made in
     let last : (ps : List Pair) (k : ℕ) → List Call = λ ps k. last_write ps key value (k + s) ∷ [] in
     let write : Trace {X = Unit} did m (last (home_pairs blocks key) (home_depth blocks key)) own r e =
-        subst (λ (o : Result Unit Fault). Trace did m (last (home_pairs blocks key) (home_depth blocks key)) o r e) clear
-        (subst (λ (k : ℕ). Trace {X = Unit} did m (last (home_pairs blocks key) k) (Ok tt) r e) depth
-        (subst (λ (ps : List Pair). Trace {X = Unit} did m (last ps c.args.leaf.now.depth) (Ok tt) r e) pairs c.put_pair.ensures)) in
+    subst (λ (o : Result Unit Fault). Trace did m (last (home_pairs blocks key) (home_depth blocks key)) o r e) clear
+    (subst (λ (k : ℕ). Trace {X = Unit} did m (last (home_pairs blocks key) k) (Ok tt) r e) depth
+    (subst (λ (ps : List Pair). Trace {X = Unit} did m (last ps c.args.leaf.now.depth) (Ok tt) r e) pairs c.put_pair.ensures)) in
     subst (λ (cs : List Call). Trace did d cs own r e) (sym (change_is blocks key value s))
     (went_on did room (λ _. last (home_pairs blocks key) (home_depth blocks key)) own d m e tt own r made write)

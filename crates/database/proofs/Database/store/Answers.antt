@@ -239,5 +239,5 @@ returns g c =
     let found = leaf_is steps M d m e _ key hashed leaf looked in
     let said = said_good blocks key value mode c.read.new.into page leaf found (bytes_of c.in_ok-page.page.good) c.in_ok-page.ensures.0 c.in_ok-page.ensures.1 in
     let changed = subst (λ (b : Blocks). Trace {X = Unit} did e (change_calls b key value s) (bits_clear (bits_in b) (hash key) (home_depth b key) s) r last)
-        (kept steps M d m e _ key hashed leaf looked _ c.in_ok-read.ensures.step) c.change.ensures in
+    (kept steps M d m e _ key hashed leaf looked _ c.in_ok-read.ensures.step) c.change.ensures in
     page_allows blocks key value mode c.in_ok-check_pair.ensures did d e last s r (sym (c.in_ok-splits.ensures ∙ said)) (homed steps M d m e _ key hashed leaf looked _ long c.in_ok-read.ensures.step) changed

@@ -1,7 +1,6 @@
 pub mod Rules
 pub mod Quiet
 pub mod Holds
-pub mod Marks
 pub mod Writes
 pub mod Homes
 pub mod Traces

@@ -118,34 +118,36 @@ module _ (b : Blocks) (key value : List ℕ) (mode : Mode) (clear : bits_in b �
       ∙ ap (asking false true (read 0 1024 ∷ read 4 1024 ∷ [])) planned_is
 
   -- no number of splits makes room
-  module _ (is : None ≡ plan ps key value 0) where
-    pub no_plan_answer : stored b key value mode ≡ Err (fault NoPlan Database 4)
-    no_plan_answer = stored_is ∙ ap (λ (o : Option ℕ). answering false true (number true false o 4)) (sym is)
-
-    pub no_plan_calls : store_calls b key value mode ≡ read 0 1024 ∷ read 4 1024 ∷ []
-    no_plan_calls = calls_are ∙ ap (λ (o : Option ℕ). asking false true (read 0 1024 ∷ read 4 1024 ∷ []) (number true false o 4)) (sym is)
+  pub no_plan : None ≡ plan ps key value 0 → (stored b key value mode ≡ Err (fault NoPlan Database 4)) × (store_calls b key value mode ≡ read 0 1024 ∷ read 4 1024 ∷ [])
+  no_plan is = (
+    stored_is ∙ ap (λ (o : Option ℕ). answering false true (number true false o 4)) (sym is),
+    calls_are ∙ ap (λ (o : Option ℕ). asking false true (read 0 1024 ∷ read 4 1024 ∷ []) (number true false o 4)) (sym is),
+  )
 
   -- s splits do
-  module _ (s h : ℕ) (is : Some s ≡ plan ps key value 0) (hashed : hash key ≡ h) where
-    pub plan_answer : stored b key value mode ≡ bits_clear none_set h 0 s
-    plan_answer =
-        stored_is
-        ∙ ap (λ (o : Option ℕ). answering false true (number true false o 4)) (sym is)
-        ∙ ap (λ (bits : ℕ → Bool). bits_clear bits (hash key) (home_depth b key) s) clear
-        ∙ ap (λ (t : ℕ). bits_clear none_set (hash key) t s) depth_zero
-        ∙ ap (λ (g : ℕ). bits_clear none_set g 0 s) hashed
+  module _ (s h : ℕ) (hashed : hash key ≡ h) where
+    abbrev new : ℕ → List Pair → List Pair
+    new t qs = with_pair (others qs key (t + s)) key value
 
-    changes : change_calls b key value s ≡ changing b none_set ps h 0 s (with_pair (others ps key (0 + s)) key value)
+    changes : change_calls b key value s ≡ changing b none_set ps h 0 s (new 0 ps)
     unfolding change_calls
     changes =
-        let new : List Pair → ℕ → List Pair = λ qs t. with_pair (others qs key (t + s)) key value in
-        ap (λ (bits : ℕ → Bool). changing b bits (home_pairs b key) (hash key) (home_depth b key) s (new (home_pairs b key) (home_depth b key))) clear
-        ∙ ap (λ (t : ℕ). changing b none_set (home_pairs b key) (hash key) t s (new (home_pairs b key) t)) depth_zero
-        ∙ ap (λ (qs : List Pair). changing b none_set qs (hash key) 0 s (new qs 0)) pairs_zero
-        ∙ ap (λ (g : ℕ). changing b none_set ps g 0 s (new ps 0)) hashed
+        let t = home_depth b key in
+        let qs = home_pairs b key in
+        ap (λ (bits : ℕ → Bool). changing b bits qs (hash key) t s (new t qs)) clear
+        ∙ ap (λ (t : ℕ). changing b none_set qs (hash key) t s (new t qs)) depth_zero
+        ∙ ap (λ (qs : List Pair). changing b none_set qs (hash key) 0 s (new 0 qs)) pairs_zero
+        ∙ ap (λ (g : ℕ). changing b none_set ps g 0 s (new 0 ps)) hashed
 
-    pub plan_calls : store_calls b key value mode ≡ read 0 1024 ∷ read 4 1024 ∷ changing b none_set ps h 0 s (with_pair (others ps key (0 + s)) key value)
-    plan_calls =
-        calls_are
-        ∙ ap (λ (o : Option ℕ). asking false true (read 0 1024 ∷ read 4 1024 ∷ []) (number true false o 4)) (sym is)
-        ∙ ap (λ (cs : List Call). read 0 1024 ∷ read 4 1024 ∷ cs) changes
+    pub by_plan : Some s ≡ plan ps key value 0
+        → (stored b key value mode ≡ bits_clear none_set h 0 s) × (store_calls b key value mode ≡ read 0 1024 ∷ read 4 1024 ∷ changing b none_set ps h 0 s (new 0 ps))
+    by_plan is = (
+      stored_is
+      ∙ ap (λ (o : Option ℕ). answering false true (number true false o 4)) (sym is)
+      ∙ ap (λ (bits : ℕ → Bool). bits_clear bits (hash key) (home_depth b key) s) clear
+      ∙ ap (λ (t : ℕ). bits_clear none_set (hash key) t s) depth_zero
+      ∙ ap (λ (g : ℕ). bits_clear none_set g 0 s) hashed,
+      calls_are
+      ∙ ap (λ (o : Option ℕ). asking false true (read 0 1024 ∷ read 4 1024 ∷ []) (number true false o 4)) (sym is)
+      ∙ ap (λ (cs : List Call). read 0 1024 ∷ read 4 1024 ∷ cs) changes,
+    )

@@ -26,7 +26,7 @@ use Rattle.splits.specs.Plan.{fits_at, has_room, plan}
 use Rattle.splits.specs.Writes.{all_made, made, others, to_bit, to_page}
 use Rattle.std.proofs.lemmas.Bool.{cond-false, cond-true, eq-eqb, le-leb, lt-leb, ne_eqb}
 use Rattle.std.proofs.lemmas.List.{length-replicate}
-use Rattle.upkeep.proofs.Clear.{changing, no_page, no_plan_answer, no_plan_calls, none_set, plan_answer, plan_calls}
+use Rattle.upkeep.proofs.Clear.{by_plan, no_page, no_plan, none_set}
 use Rattle.upkeep.proofs.Holds.{bits_blank, blank_page, pages_blank}
 use Rattle.upkeep.proofs.Marks.{contents_marked, contents_written, marked}
 use Rattle.upkeep.specs.Cases.{StoreCases, TwoStores, alone, blocks_after, claimed, key_a, key_c, key_like_a}
@@ -74,9 +74,6 @@ module _ (v : List ℕ) where
 
   abbrev where_same : ℕ → ℕ → ℕ → List Pair
   where_same h t x = cond (eqb (h % 2 ^ t) x) only []
-
-  falls_there : (t x : ℕ) → falling t x only ≡ where_same 97 t x
-  falls_there t x = ap (λ (h : ℕ). where_same h t x) hash_a
 
   module _ (key : List ℕ) (other : same key_a key ≡ false) (g : ℕ) (hashed : hash key ≡ g) where
     beside : (t : ℕ) → others only key t ≡ where_same 97 t (low g t)
@@ -174,16 +171,10 @@ module _ (blank : Blocks) (v w : List ℕ) (mode : Mode) (zeros : BlankBlocks bl
       (contents_bits blank ∙ clear) (fun_ext (pages_blank blank zeros))
 
   -- the first store
-
-  first : stored blank key_a v mode ≡ Ok tt
+  first : (stored blank key_a v mode ≡ Ok tt) × (store_calls blank key_a v mode ≡ read 0 1024 ∷ read 4 1024 ∷ claim 4 ∷ write 4 (written pa) ∷ [])
   first =
-      plan_answer blank key_a v mode clear [] (blank_good (blank 4) (zeros 4)) (blank_page (blank 4) (zeros 4)) refl refl (le-leb (1 + length v) 1008 (omega arith)) 0 97
-      (plan_a v w wide long) hash_a
-
-  first_calls : store_calls blank key_a v mode ≡ read 0 1024 ∷ read 4 1024 ∷ claim 4 ∷ write 4 (written pa) ∷ []
-  first_calls =
-      plan_calls blank key_a v mode clear [] (blank_good (blank 4) (zeros 4)) (blank_page (blank 4) (zeros 4)) refl refl (le-leb (1 + length v) 1008 (omega arith)) 0 97
-      (plan_a v w wide long) hash_a
+      by_plan blank key_a v mode clear [] (blank_good (blank 4) (zeros 4)) (blank_page (blank 4) (zeros 4)) refl refl (le-leb (1 + length v) 1008 (omega arith)) 0 97
+      hash_a (plan_a v w wide long)
 
   -- the blocks after it
 
@@ -196,18 +187,10 @@ module _ (blank : Blocks) (v w : List ℕ) (mode : Mode) (zeros : BlankBlocks bl
   still_clear : bits_in blocks ≡ none_set
   still_clear = sym (contents_bits blocks) ∙ ap (λ (c : Contents). c.bits) has_a
 
-  -- the second
+  no_other : (key : List ℕ) → same key_a key ≡ false → look key pa ≡ None
+  no_other key other = rw other refl
 
-  module _ (key : List ℕ) (other : same key_a key ≡ false) where
-    no_other : look key pa ≡ None
-    no_other = rw other refl
-
-  second : stored blocks key_c w mode ≡ Ok tt
-  second =
-      plan_answer blocks key_c w mode still_clear pa (reads_back pa fits_a).0 (reads_back pa fits_a).1 (no_other key_c not_c) refl (le-leb (1 + length w) 1008 (omega arith)) 2 99
-      (plan_c v w wide long) hash_c
-
-  -- its calls, by the hash of `a` and directory block 0
+  -- the calls of the second store, by the hash of `a` and directory block 0
   abbrev two_splits : ℕ → List ℕ → List Pair → List Call
   two_splits h directory new =
       read 0 1024 ∷ read 4 1024 ∷ claim 4 ∷ claim 5 ∷ claim 0 ∷ claim 7 ∷ claim 0
@@ -216,12 +199,14 @@ module _ (blank : Blocks) (v w : List ℕ) (mode : Mode) (zeros : BlankBlocks bl
       ∷ write 7 (written new)
       ∷ []
 
-  second_splits : store_calls blocks key_c w mode ≡ two_splits 97 (blank 0) pc
-  second_splits =
-      plan_calls blocks key_c w mode still_clear pa (reads_back pa fits_a).0 (reads_back pa fits_a).1 (no_other key_c not_c) refl (le-leb (1 + length w) 1008 (omega arith)) 2 99
-      (plan_c v w wide long) hash_c
-      ∙ ap (λ (ps : List Pair). two_splits (hash key_a) (blank 0) (with_pair ps key_c w)) (beside v key_c not_c 99 hash_c 2)
-      ∙ ap (λ (h : ℕ). two_splits h (blank 0) pc) hash_a
+  second : (stored blocks key_c w mode ≡ Ok tt) × (store_calls blocks key_c w mode ≡ two_splits 97 (blank 0) pc)
+  second =
+      let found = by_plan blocks key_c w mode still_clear pa (reads_back pa fits_a).0 (reads_back pa fits_a).1 (no_other key_c not_c) refl (le-leb (1 + length w) 1008 (omega arith)) 2 99 hash_c (plan_c v w wide long) in (
+        found.0,
+        found.1
+        ∙ ap (λ (ps : List Pair). two_splits (hash key_a) (blank 0) (with_pair ps key_c w)) (beside v key_c not_c 99 hash_c 2)
+        ∙ ap (λ (h : ℕ). two_splits h (blank 0) pc) hash_a,
+      )
 
   second_contents : contents_of (blocks_after (two_splits 97 (blank 0) pc) blocks) ≡ in_the_end pa pc
   second_contents =
@@ -243,16 +228,10 @@ module _ (blank : Blocks) (v w : List ℕ) (mode : Mode) (zeros : BlankBlocks bl
       ∙ ends_so pa pc
 
   -- the one that is refused
-
-  refused : stored blocks key_like_a w mode ≡ Err (fault NoPlan Database 4)
+  refused : (stored blocks key_like_a w mode ≡ Err (fault NoPlan Database 4)) × (store_calls blocks key_like_a w mode ≡ read 0 1024 ∷ read 4 1024 ∷ [])
   refused =
-      no_plan_answer blocks key_like_a w mode still_clear pa (reads_back pa fits_a).0 (reads_back pa fits_a).1 (no_other key_like_a not_like_a) refl
-      (le-leb (2 + length w) 1008 (omega arith)) (plan_like_a v w wide long)
-
-  refused_calls : store_calls blocks key_like_a w mode ≡ read 0 1024 ∷ read 4 1024 ∷ []
-  refused_calls =
-      no_plan_calls blocks key_like_a w mode still_clear pa (reads_back pa fits_a).0 (reads_back pa fits_a).1 (no_other key_like_a not_like_a) refl
-      (le-leb (2 + length w) 1008 (omega arith)) (plan_like_a v w wide long)
+      no_plan blocks key_like_a w mode still_clear pa (reads_back pa fits_a).0 (reads_back pa fits_a).1 (no_other key_like_a not_like_a) refl (le-leb (2 + length w) 1008 (omega arith))
+      (plan_like_a v w wide long)
 
   kept : held (contents_of blocks) key_a ≡ Some (key_a, v)
   kept =
@@ -262,15 +241,15 @@ module _ (blank : Blocks) (v w : List ℕ) (mode : Mode) (zeros : BlankBlocks bl
 
   two_stores : TwoStores blank blocks v w mode
   two_stores = record {
-    first = first;
-    first_calls = first_calls;
-    second = second;
-    second_calls = second_splits ∙ ap (λ (directory : List ℕ). two_splits 97 directory pc) (zeros 0);
-    claims = ap₂ (λ (cs ds : List Call). claimed (cs ++ ds)) first_calls second_splits;
-    contents = ap (λ (cs : List Call). contents_of (blocks_after cs blocks)) second_splits ∙ second_contents;
-    refused = refused;
-    refused_calls = refused_calls;
-    kept = ap (λ (cs : List Call). held (contents_of (blocks_after cs blocks)) key_a) refused_calls ∙ kept;
+    first = first.0;
+    first_calls = first.1;
+    second = second.0;
+    second_calls = second.1 ∙ ap (λ (directory : List ℕ). two_splits 97 directory pc) (zeros 0);
+    claims = ap₂ (λ (cs ds : List Call). claimed (cs ++ ds)) first.1 second.1;
+    contents = ap (λ (cs : List Call). contents_of (blocks_after cs blocks)) second.1 ∙ second_contents;
+    refused = refused.0;
+    refused_calls = refused.1;
+    kept = ap (λ (cs : List Call). held (contents_of (blocks_after cs blocks)) key_a) refused.1 ∙ kept;
   }
 
 pub cases : StoreCases
@@ -280,6 +259,6 @@ cases = record {
   hash_like_a = hash_like_a;
   stores = λ blank v w mode zeros wide long.
       let e : blocks_after (store_calls blank key_a v mode) blank ≡ put blank 4 (written (alone key_a v))
-      = ap (λ (cs : List Call). blocks_after cs blank) (first_calls blank v w mode zeros wide long) in
+      = ap (λ (cs : List Call). blocks_after cs blank) (first blank v w mode zeros wide long).1 in
       subst (λ (b : Blocks). TwoStores blank b v w mode) (sym e) (two_stores blank v w mode zeros wide long);
 }

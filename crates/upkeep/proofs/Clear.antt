@@ -1,5 +1,5 @@
 -- A store in a directory with no bit set: its key is sought on page 0.
-use Rattle.std.proofs.Common.{◌≡◌, ℕ, ◌+◌, ◌%◌, ◌^◌, Bool, true, false, cond, eqb, leb, List, [], ◌∷◌, ◌++◌, length, Option, Some, None, is_some, Ok, Err, Result, refl, sym, ap, ◌∙◌, subst}
+use Rattle.std.proofs.Common.{◌≡◌, ℕ, ◌+◌, Bool, true, false, cond, eqb, leb, List, [], ◌∷◌, ◌++◌, length, Option, Some, None, is_some, Ok, Err, Result, refl, sym, ap, ◌∙◌, subst}
 use native.Mathlib.Nat.{mod-one}
 use Rattle.calls.specs.Delete.{has_key, home_depth, home_pairs}
 use Rattle.calls.specs.Fetch.{home_bytes, home_page}
@@ -8,7 +8,6 @@ use Rattle.calls.specs.declared.Mode.{Mode}
 use Rattle.calls.specs.declared.Mode.TheVariants.{Insert, Replace}
 use Rattle.contents.proofs.Tests.{good_yes}
 use Rattle.contents.specs.Blocks.{Blocks, bits_in}
-use Rattle.contents.specs.Test.{is_good}
 use Rattle.devices.specs.Step.{Call, fault, read, write}
 use Rattle.directory.specs.Tree.{depth_of, low, lookup, page_of}
 use Rattle.faults.specs.declared.Fault.{Fault}
@@ -54,8 +53,8 @@ abbrev pub changing : Blocks → (ℕ → Bool) → List Pair → ℕ → ℕ �
 changing b bits ps h t s new =
     under_calls bits h t s
     ++ elim (bits_clear bits h t s) as (λ _. List Call) [
-      Ok _ ↦ claims h t s ++ (split_writes b ps h t s ++ write (4 + low h (t + s)) (written new) ∷ [])
-    | Err _ ↦ []
+      | Ok _ ↦ claims h t s ++ (split_writes b ps h t s ++ write (4 + low h (t + s)) (written new) ∷ [])
+      | Err _ ↦ []
     ]
 
 module _ (b : Blocks) (key value : List ℕ) (mode : Mode) (clear : bits_in b ≡ none_set) (ps : List Pair) (good : Good (b 4)) (are : pairs_of (b 4) ≡ ps) (there : look key ps ≡ None)
@@ -143,11 +142,11 @@ module _ (b : Blocks) (key value : List ℕ) (mode : Mode) (clear : bits_in b �
         → (stored b key value mode ≡ bits_clear none_set h 0 s) × (store_calls b key value mode ≡ read 0 1024 ∷ read 4 1024 ∷ changing b none_set ps h 0 s (new 0 ps))
     by_plan is = (
       stored_is
-      ∙ ap (λ (o : Option ℕ). answering false true (number true false o 4)) (sym is)
-      ∙ ap (λ (bits : ℕ → Bool). bits_clear bits (hash key) (home_depth b key) s) clear
-      ∙ ap (λ (t : ℕ). bits_clear none_set (hash key) t s) depth_zero
-      ∙ ap (λ (g : ℕ). bits_clear none_set g 0 s) hashed,
+          ∙ ap (λ (o : Option ℕ). answering false true (number true false o 4)) (sym is)
+          ∙ ap (λ (bits : ℕ → Bool). bits_clear bits (hash key) (home_depth b key) s) clear
+          ∙ ap (λ (t : ℕ). bits_clear none_set (hash key) t s) depth_zero
+          ∙ ap (λ (g : ℕ). bits_clear none_set g 0 s) hashed,
       calls_are
-      ∙ ap (λ (o : Option ℕ). asking false true (read 0 1024 ∷ read 4 1024 ∷ []) (number true false o 4)) (sym is)
-      ∙ ap (λ (cs : List Call). read 0 1024 ∷ read 4 1024 ∷ cs) changes,
+          ∙ ap (λ (o : Option ℕ). asking false true (read 0 1024 ∷ read 4 1024 ∷ []) (number true false o 4)) (sym is)
+          ∙ ap (λ (cs : List Call). read 0 1024 ∷ read 4 1024 ∷ cs) changes,
     )

@@ -1,5 +1,5 @@
 -- The worked cases of a store.
-use Rattle.std.proofs.Common.{◌≡◌, ℕ, zero, suc, ◌+◌, ◌*◌, ◌/◌, ◌%◌, ◌^◌, ◌<◌, ◌≤◌, ◌||◌, Bool, true, false, cond, eqb, List, [], ◌∷◌, ◌++◌, length, replicate, None, Some, Ok, Err, length-set, refl, sym, ap, ap₂, ◌∙◌, subst, arith}
+use Rattle.std.proofs.Common.{◌≡◌, ℕ, ◌+◌, ◌*◌, ◌%◌, ◌^◌, ◌<◌, ◌≤◌, ◌||◌, Bool, true, false, cond, eqb, List, [], ◌∷◌, ◌++◌, length, None, Some, Ok, Err, length-set, refl, sym, ap, ap₂, ◌∙◌, subst, arith}
 use Rattle.std.proofs.Math.Path.{fun_ext}
 use Rattle.calls.specs.Store.{store_calls, stored, with_bit}
 use Rattle.calls.specs.declared.Mode.{Mode}
@@ -16,10 +16,10 @@ use Rattle.keys.proofs.Sames.{laws}
 use Rattle.keys.specs.Hash.{hash}
 use Rattle.keys.specs.Same.{same}
 use Rattle.page_edits.proofs.Back.{reads_back}
-use Rattle.page_edits.specs.Edit.{dropped, falling, with_pair}
+use Rattle.page_edits.specs.Edit.{dropped, with_pair}
 use Rattle.page_edits.specs.Write.{Fits, size, written}
 use Rattle.pages.proofs.Pages.{blank_good}
-use Rattle.pages.specs.Page.{Good, Pair, look, pairs_of}
+use Rattle.pages.specs.Page.{Pair, look}
 use Rattle.splits.proofs.Plans.{plan_none, plan_some}
 use Rattle.splits.proofs.Rooms.{fits_none}
 use Rattle.splits.specs.Plan.{fits_at, has_room, plan}
@@ -204,8 +204,8 @@ module _ (blank : Blocks) (v w : List ℕ) (mode : Mode) (zeros : BlankBlocks bl
       let found = by_plan blocks key_c w mode still_clear pa (reads_back pa fits_a).0 (reads_back pa fits_a).1 (no_other key_c not_c) refl (le-leb (1 + length w) 1008 (omega arith)) 2 99 hash_c (plan_c v w wide long) in (
         found.0,
         found.1
-        ∙ ap (λ (ps : List Pair). two_splits (hash key_a) (blank 0) (with_pair ps key_c w)) (beside v key_c not_c 99 hash_c 2)
-        ∙ ap (λ (h : ℕ). two_splits h (blank 0) pc) hash_a,
+            ∙ ap (λ (ps : List Pair). two_splits (hash key_a) (blank 0) (with_pair ps key_c w)) (beside v key_c not_c 99 hash_c 2)
+            ∙ ap (λ (h : ℕ). two_splits h (blank 0) pc) hash_a,
       )
 
   second_contents : contents_of (blocks_after (two_splits 97 (blank 0) pc) blocks) ≡ in_the_end pa pc

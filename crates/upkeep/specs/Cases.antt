@@ -3,7 +3,7 @@ use Rattle.std.specs.Prelude.{◌≡◌, ℕ, ◌+◌, not, List, [], ◌∷◌,
 use Rattle.calls.specs.Store.{store_calls, stored}
 use Rattle.calls.specs.declared.Mode.{Mode}
 use Rattle.contents.specs.Blocks.{Blocks}
-use Rattle.contents.specs.Contents.{Contents, contents_of, held}
+use Rattle.contents.specs.Contents.{contents_of, held}
 use Rattle.devices.specs.Meaning.{put}
 use Rattle.devices.specs.Step.{Call, claim, fault, flush, read, write}
 use Rattle.faults.specs.declared.Layer.TheVariants.{Database}
@@ -43,7 +43,8 @@ claimed (read n size ∷ cs) = claimed cs
 claimed (write n bytes ∷ cs) = claimed cs
 claimed (flush ∷ cs) = claimed cs
 
--- Blank blocks, and those after the first store: of `a` with a value v. The second is of `c`, or of the key like `a`, with a value w.
+-- The first store, on blank blocks, is of `a` with a value v. On the blocks after it the second is of `c`, or of the key like `a`,
+-- with a value w.
 pub record TwoStores (blank blocks : Blocks) (v w : List ℕ) (mode : Mode) : Type 0 where
   pub first : stored blank key_a v mode ≡ Ok tt
   pub first_calls : store_calls blank key_a v mode ≡ read 0 1024 ∷ read 4 1024 ∷ claim 4 ∷ write 4 (written (alone key_a v)) ∷ []
@@ -65,7 +66,7 @@ pub record TwoStores (blank blocks : Blocks) (v w : List ℕ) (mode : Mode) : Ty
   pub refused_calls : store_calls blocks key_like_a w mode ≡ read 0 1024 ∷ read 4 1024 ∷ []
   pub kept : held (contents_of (blocks_after (store_calls blocks key_like_a w mode) blocks)) key_a ≡ Some (key_a, v)
 
--- every pair of values of 600 bytes
+-- with any two values of 600 bytes, in either mode
 pub record StoreCases : Type 0 where
   pub hash_a : hash key_a ≡ 97
   pub hash_c : hash key_c ≡ 99

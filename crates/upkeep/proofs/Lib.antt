@@ -8,3 +8,5 @@ pub mod Outcomes
 pub mod Deletes
 pub mod Flats
 pub mod Stores
+pub mod Clear
+pub mod Worked

@@ -3,3 +3,4 @@ pub mod Finds
 pub mod Visits
 pub mod Steps
 pub mod Walks
+pub mod Keeps

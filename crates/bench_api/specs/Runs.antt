@@ -1,7 +1,7 @@
 -- What runs of fetches and walks over a database count.
 use Rattle.std.specs.Prelude.{◌≡◌, ◌⊎◌, ℕ, ◌/◌, List, [], ◌∷◌, length, take, drop, min, count_by, is_some, slice_index}
-use Rattle.database.specs.declared.Stepped.{Stepped}
-use Rattle.database.specs.declared.Stepped.TheVariants.{End, Pair}
+use Rattle.calls.specs.declared.Stepped.{Stepped}
+use Rattle.calls.specs.declared.Stepped.TheVariants.{End, Pair}
 use Rattle.contents.specs.Contents.{Contents, Position, held, remaining}
 use Rattle.std.specs.Simd.{first_chunks}
 

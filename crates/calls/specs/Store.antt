@@ -1,9 +1,9 @@
 -- What a store answers where none of its calls is refused, and which calls it makes: all its reads, then all its claims, then all
 -- its writes.
-use Rattle.std.specs.Prelude.{ℕ, zero, suc, ◌+◌, ◌-◌, ◌*◌, ◌/◌, ◌%◌, ◌^◌, Bool, false, cond, List, [], ◌∷◌, ◌++◌, map, min, length, Some, None, Ok, Err, Result, find, slice_index, slice_index_or, slice_set, ◌≡◌, ◌||◌, bit_or, nat_le, ◌==◌}
+use Rattle.std.specs.Prelude.{ℕ, zero, suc, ◌+◌, ◌-◌, ◌*◌, ◌/◌, ◌%◌, ◌^◌, Bool, false, cond, List, [], ◌∷◌, ◌++◌, map, min, length, is_some, Some, None, Ok, Err, Result, find, slice_index, slice_index_or, slice_set, ◌≡◌, ◌||◌, bit_or, nat_le, ◌==◌}
 use Rattle.contents.specs.Blocks.{Blocks, bits_in}
-use Rattle.contents.specs.Test.{is_good}
-use Rattle.calls.specs.Delete.{has_key, home_depth, home_pairs}
+use Rattle.contents.specs.Test.{is_good, place_of}
+use Rattle.calls.specs.Delete.{home_depth, home_pairs}
 use Rattle.calls.specs.Fetch.{home_bytes, home_page}
 use Rattle.calls.specs.declared.Mode.{Mode}
 use Rattle.calls.specs.declared.Mode.TheVariants.{Insert, Replace}
@@ -18,7 +18,7 @@ use Rattle.lookup.specs.Pages.{bad_page}
 use Rattle.lookup.specs.Reads.{blocks_of_bits, home_calls, reads}
 use Rattle.page_edits.specs.Edit.{falling, with_pair}
 use Rattle.page_edits.specs.Write.{written}
-use Rattle.pages.specs.Page.{Pair}
+use Rattle.pages.specs.Page.{Pair, pairs_of}
 use Rattle.splits.specs.Plan.{plan}
 use Rattle.splits.specs.Writes.{others}
 use Rattle.std.specs.List.{flat_map, range_with_len}
@@ -32,13 +32,21 @@ abbrev pub inserts : Mode → Bool → Bool
 inserts Insert there = there
 inserts Replace there = false
 
--- how many splits the store makes, from its home page: refused 6 for a page that is not good, 5 for an insert of a key that is
--- there, and 8 where no number of splits makes room
+-- How many splits a store makes, by a good home page, which has this depth and stands in block n: refused 5 for an insert of a key
+-- that is there, and 8 where no number of splits makes room.
+abbrev pub decided : List ℕ → ℕ → ℕ → List ℕ → List ℕ → Mode → Result ℕ Fault
+decided page t n key value mode =
+    cond
+    (inserts mode (is_some (place_of page key)))
+    (Err (fault KeyExists Database n))
+    (elim (plan (pairs_of page) key value t) as (λ _. Result ℕ Fault) [ Some s ↦ Ok s | None ↦ Err (fault NoPlan Database n) ])
+
+-- refused 6 before that for a home page that is not good
 unfoldable pub planned : Blocks → List ℕ → List ℕ → Mode → Result ℕ Fault
 planned blocks key value mode =
-    cond (is_good (home_bytes blocks key))
-    (cond (inserts mode (has_key blocks key)) (Err (fault KeyExists Database (4 + home_page blocks key)))
-    (elim (plan (home_pairs blocks key) key value (home_depth blocks key)) as (λ _. Result ℕ Fault) [ Some s ↦ Ok s | None ↦ Err (fault NoPlan Database (4 + home_page blocks key)) ]))
+    cond
+    (is_good (home_bytes blocks key))
+    (decided (home_bytes blocks key) (home_depth blocks key) (4 + home_page blocks key) key value mode)
     (Err (bad_page (4 + home_page blocks key)))
 
 -- the bits under those that s splits from depth t on would set, in their order; under a bit at depth 14 there is none
@@ -92,16 +100,22 @@ split_writes blocks pairs h t (suc s) =
 abbrev pub last_write : List Pair → List ℕ → List ℕ → ℕ → Call
 last_write pairs key value t = write (4 + low (hash key) t) (written (with_pair (others pairs key t) key value))
 
+-- what makes room: the bits under those to be set are tested, and where all are clear come the claims and the splits
+abbrev pub room_calls : Blocks → List Pair → ℕ → ℕ → ℕ → List Call
+room_calls blocks pairs h t s =
+    under_calls (bits_in blocks) h t s
+    ++ elim (bits_clear (bits_in blocks) h t s) as (λ _. List Call) [ Ok _ ↦ claims h t s ++ split_writes blocks pairs h t s | Err _ ↦ [] ]
+
 -- what is done once the number of splits is known
 unfoldable pub change_calls : Blocks → List ℕ → List ℕ → ℕ → List Call
 change_calls blocks key value s =
     under_calls (bits_in blocks) (hash key) (home_depth blocks key) s
     ++ elim (bits_clear (bits_in blocks) (hash key) (home_depth blocks key) s) as (λ _. List Call) [
-      Ok _ ↦
-        claims (hash key) (home_depth blocks key) s
-        ++ (split_writes blocks (home_pairs blocks key) (hash key) (home_depth blocks key) s
-        ++ last_write (home_pairs blocks key) key value (home_depth blocks key + s) ∷ [])
-    | Err _ ↦ []
+      | Ok _ ↦
+          claims (hash key) (home_depth blocks key) s
+          ++ (split_writes blocks (home_pairs blocks key) (hash key) (home_depth blocks key) s
+          ++ last_write (home_pairs blocks key) key value (home_depth blocks key + s) ∷ [])
+      | Err _ ↦ []
     ]
 
 unfoldable pub store_calls : Blocks → List ℕ → List ℕ → Mode → List Call

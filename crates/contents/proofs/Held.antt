@@ -44,7 +44,7 @@ pub pages_tidy : PagesTidy
 pages_tidy blocks p = rw (contents_pages blocks p) (differ_page (page_in blocks p))
 
 -- what a search of a list finds stands in it, with the key
-look_found : (key : List ℕ) (ps : List Pair) (pair : Pair) → look key ps ≡ Some pair → Contains ps pair × (same pair.0 key ≡ true)
+pub look_found : (key : List ℕ) (ps : List Pair) (pair : Pair) → look key ps ≡ Some pair → Contains ps pair × (same pair.0 key ≡ true)
 look_found key [] pair e = absurd (none-some pair e)
 look_found key (p ∷ ps) pair e =
     ⊎_elim
@@ -57,7 +57,7 @@ look_found key (p ∷ ps) pair e =
     (cases_Bool (same p.0 key))
 
 -- and where the keys differ it finds every pair that stands there
-look_held : (key : List ℕ) (ps : List Pair) (pair : Pair) → Differ ps → Contains ps pair → same pair.0 key ≡ true → look key ps ≡ Some pair
+pub look_held : (key : List ℕ) (ps : List Pair) (pair : Pair) → Differ ps → Contains ps pair → same pair.0 key ≡ true → look key ps ≡ Some pair
 look_held key ps pair differ (k, l, at) e =
     let here : get_or ps k none ≡ pair = get_or_default ps k none pair l ∙ at in
     let has : same (get_or ps k none).0 key ≡ true = ap (λ (x : Pair). same x.0 key) here ∙ e in

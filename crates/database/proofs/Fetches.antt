@@ -1,16 +1,18 @@
 -- Which calls a fetch makes, and what it answers, where its input was accepted.
-use Rattle.std.proofs.Common.{Some, None, refl, subst, arith, ◌≤◌, ◌≡◌, ℕ, ◌+◌, cond, eqb, length, Bool, true, false, List, Option, Ok, Err, Result, sym, ap, ◌∙◌}
+use Rattle.std.proofs.Common.{[], ◌<◌, Some, None, refl, subst, arith, ◌≤◌, ◌≡◌, ℕ, ◌+◌, cond, eqb, length, Bool, true, false, List, Option, Ok, Err, Result, sym, ap, ◌∙◌}
 use Rattle.contents.proofs.Held.{contents_bits, contents_pages}
 use Rattle.contents.proofs.Tests.{found_place, pairs_good, place_found, tests_good}
 use Rattle.contents.specs.Contents.{contents_of, held, home, pairs_in}
-use Rattle.database.specs.Shown.{ShowsRecord, ShowsValue}
+use Rattle.std.specs.Option.{is_some}
+use Rattle.std.proofs.lemmas.Bool.{eq-eqb, ne_eqb}
+use Rattle.calls.specs.Shown.{HoldsValue, ShowsRecord, ShowsValue}
 use Rattle.directory.specs.Tree.{page_of}
 use Rattle.lookup.proofs.Reading.{answer_is}
 use Rattle.pages.proofs.Pages.{offsets_within}
 use Rattle.std.specs.Result.{is_ok}
 use Rattle.contents.specs.Blocks.{Blocks, page_in}
 use Rattle.contents.specs.Test.{is_good, place_of}
-use Rattle.database.specs.Fetch.{record_at, decoding, fetch_calls, found, home_bytes, home_page}
+use Rattle.calls.specs.Fetch.{got, record_at, decoding, fetch_calls, found, home_bytes, home_page}
 use Rattle.devices.specs.Step.{fault}
 use Rattle.faults.specs.declared.Fault.{Fault}
 use Rattle.faults.specs.declared.Layer.TheVariants.{Database}
@@ -18,7 +20,7 @@ use Rattle.faults.specs.declared.Refusal.TheVariants.{NoCode}
 use Rattle.keys.specs.Hash.{hash}
 use Rattle.lookup.specs.Pages.{bad_page}
 use Rattle.lookup.specs.Reads.{home_calls}
-use Rattle.pages.specs.Page.{Good, key_of, look, pairs, pairs_of}
+use Rattle.pages.specs.Page.{Good, Pair, key_of, look, pairs, pairs_of}
 use Rattle.pages.specs.Read.{Found, Place, bytes_at}
 
 module _ (blocks : Blocks) (key : List ℕ) (size : ℕ) (long : eqb (length key) 0 ≡ false) (whole : eqb size 1024 ≡ true) where
@@ -92,7 +94,7 @@ module _ {R : Type 0} (decoded : List ℕ → Option R) (blocks : Blocks) (key :
   pub record_shown : (place : Place) (x : R) → Good (home_bytes blocks key) → Found (home_bytes blocks key) key (Some place) → decoded (bytes_at (home_bytes blocks key) place) ≡ Some x
       → ShowsRecord decoded (contents_of blocks) key (Ok (Some x))
   record_shown place x good at is =
-      (key_of (home_bytes blocks key) at.0, bytes_at (home_bytes blocks key) place, held_at_home blocks key good ∙ at.3, is)
+      (bytes_at (home_bytes blocks key) place, (key_of (home_bytes blocks key) at.0, held_at_home blocks key good ∙ at.3), is)
 
   pub none_shown : Good (home_bytes blocks key) → Found (home_bytes blocks key) key None → ShowsRecord decoded (contents_of blocks) key (Ok None)
   none_shown good at = held_at_home blocks key good ∙ at
@@ -117,3 +119,46 @@ module _ {R : Type 0} (decoded : List ℕ → Option R) (page : List ℕ) (n : �
   pub decoding_refused : (f : Fault) → Err f ≡ record_at decoded page n p → decoding decoded page (Ok (n, place)) ≡ Err f
   unfolding h
   decoding_refused f e = ap (λ (q : Option Place). decoding decoded page (Ok (n, q))) is ∙ ap h (sym e)
+
+some_none : {p : Pair} → Some p ≡ None → ⊥
+some_none {p} e = let z : ◌≡◌ {A = Bool} true false = ap (λ (o : Option Pair). is_some o) e in cc
+
+-- bytes that decode to a record are read as it
+decoded_ok : {R : Type 0} (decoded : List ℕ → Option R) (page : List ℕ) (n : ℕ) (p : Place) (x : R) → decoded (bytes_at page p) ≡ Some x → Ok x ≡ record_at decoded page n p
+decoded_ok {R} decoded page n p x e = sym (ap (λ (o : Option R). elim o as (λ _. Result R Fault) [ Some y ↦ Ok y | None ↦ Err (fault NoCode Database n) ]) e)
+
+-- a value that is held stands on a good home page
+held_good : (blocks : Blocks) (key value : List ℕ) → HoldsValue (contents_of blocks) key value → is_good (home_bytes blocks key) ≡ true
+held_good blocks key value h = go (is_good (home_bytes blocks key)) refl
+  where
+    go : (b : Bool) → is_good (home_bytes blocks key) ≡ b → is_good (home_bytes blocks key) ≡ true
+    go true e = e
+    go false e =
+        let bare : pairs_in (home_bytes blocks key) ≡ [] = rw e in
+        let at : home_page blocks key ≡ home (contents_of blocks) key = ap (λ (bits : ℕ → Bool). page_of bits (hash key)) (sym (contents_bits blocks)) in
+        let none : held (contents_of blocks) key ≡ None =
+        ap (look key) (contents_pages blocks (home (contents_of blocks) key) ∙ ap (λ (p : ℕ). pairs_in (page_in blocks p)) (sym at) ∙ bare) in
+        absurd (some_none (sym h.1 ∙ none))
+
+-- and of a record's code the record comes back
+module _ {R : Type 0} (decoded : List ℕ → Option R) (code : R → List ℕ) (x : R) (back : decoded (code x) ≡ Some x) (blocks : Blocks) (key : List ℕ) (h : HoldsValue (contents_of blocks) key (code x)) where
+  abbrev page : List ℕ
+  page = home_bytes blocks key
+
+  here : Good page
+  here = (tests_good page).0 (held_good blocks key (code x) h)
+
+  at_place : (place : Option Place) → Found page key place → (n : ℕ) → decoding decoded page (Ok (n, place)) ≡ Ok (Some x)
+  at_place None at n = absurd (some_none (sym h.1 ∙ held_at_home blocks key here ∙ at))
+  at_place (Some p) at n =
+      let same = sym (held_at_home blocks key here ∙ at.3) ∙ h.1 in
+      let bytes : bytes_at page p ≡ code x = ap (λ (o : Option Pair). elim o [ Some q ↦ q.1 | None ↦ [] ]) same in
+      let record_is : Ok x ≡ record_at decoded page n p = decoded_ok decoded page n p x (ap decoded bytes ∙ back) in
+      decoding_some decoded page n (Some p) p refl x record_is
+
+  pub comes_back : 0 < length key → (size : ℕ) → size ≡ 1024 → got decoded blocks key size ≡ Ok (Some x)
+  comes_back long size whole =
+      let place = place_of page key in
+      let at = place_found page key here in
+      ap (decoding decoded page) (answer_good blocks key size (ne_eqb (length key) 0 (λ z. absurd (omega arith))) (eq-eqb size 1024 whole) (held_good blocks key (code x) h) place at)
+      ∙ at_place place at (4 + home_page blocks key)

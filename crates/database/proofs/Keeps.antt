@@ -2,8 +2,8 @@
 use Rattle.std.proofs.Common.{◌≡◌, ℕ, zero, suc, ◌+◌, ◌-◌, Bool, true, false, cond, List, [], ◌∷◌, ◌++◌, length, Some, None, Ok, Err, Option, Result, refl, sym, ap₂, ◌∙◌, ◌==◌}
 use Rattle.contents.specs.Blocks.{Blocks, bits_in, blocks_of}
 use Rattle.contents.specs.Contents.{Position}
-use Rattle.database.specs.Fetch.{fetch_calls, home_page}
-use Rattle.database.specs.Step.{Shows, calls_from, onward, reachable, step_calls, visit_calls, visited}
+use Rattle.calls.specs.Fetch.{fetch_calls, home_page}
+use Rattle.calls.specs.Step.{Shows, calls_from, onward, reachable, step_calls, visit_calls, visited}
 use Rattle.devices.specs.Meaning.{Meaning}
 use Rattle.devices.specs.Step.{Call}
 use Rattle.devices.specs.Trace.{Account}

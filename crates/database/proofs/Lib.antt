@@ -3,4 +3,10 @@ pub mod Finds
 pub mod Visits
 pub mod Steps
 pub mod Walks
+pub mod Unders
+pub mod Halves
+pub mod Marks
+pub mod Rooms
+pub mod Stored
+pub mod Deletes
 pub mod Keeps

@@ -2,9 +2,9 @@
 use Rattle.std.proofs.Common.{◌≡◌, ℕ, suc, ◌+◌, ◌-◌, ◌<◌, ◌==◌, Bool, true, false, cond, List, [], ◌∷◌, ◌++◌, Option, Some, None, Ok, Err, OnOk, Result, inl, inr, refl, sym, ap, ap₂, ◌∙◌, subst, ⊎_elim, add-one, arith}
 use Rattle.contents.specs.Blocks.{Blocks, bits_in, blocks_of}
 use Rattle.contents.specs.Contents.{Position}
-use Rattle.database.specs.Step.{Shows, calls_from, last_page, onward, page_from, reachable, step_calls, step_from, stepped, visit_calls, visited}
-use Rattle.database.specs.declared.Stepped.{Stepped}
-use Rattle.database.specs.declared.Stepped.TheVariants.{Pair}
+use Rattle.calls.specs.Step.{Shows, calls_from, last_page, onward, page_from, reachable, step_calls, step_from, stepped, visit_calls, visited}
+use Rattle.calls.specs.declared.Stepped.{Stepped}
+use Rattle.calls.specs.declared.Stepped.TheVariants.{Pair}
 use Rattle.devices.proofs.Traces.{trace_stop, trace_then}
 use Rattle.devices.specs.Meaning.{Meaning}
 use Rattle.devices.specs.Step.{Call, fault}

@@ -3,8 +3,8 @@ use Rattle.std.proofs.Common.{◌≡◌, ℕ, ◌+◌, Bool, true, false, eqb, �
 use mathlib.Core.Path.{fun_ext}
 use Rattle.contents.specs.Blocks.{Blocks, bits_in, blocks_of, page_in}
 use Rattle.contents.specs.Test.{is_good}
-use Rattle.database.specs.Fetch.{home_page}
-use Rattle.database.specs.Step.{Shows, first_home, last_page, reachable, visit_calls, visited}
+use Rattle.calls.specs.Fetch.{home_page}
+use Rattle.calls.specs.Step.{Shows, first_home, last_page, reachable, visit_calls, visited}
 use Rattle.devices.proofs.Traces.{trace_then}
 use Rattle.devices.specs.Meaning.{Meaning}
 use Rattle.devices.specs.Step.{Call, Filled, read}

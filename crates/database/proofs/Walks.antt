@@ -8,11 +8,11 @@ use Rattle.contents.specs.Contents.{Contents, contents_of, remaining}
 use Rattle.contents.specs.Test.{is_good}
 use Rattle.database.proofs.Finds.{First, find_first}
 use Rattle.database.proofs.Visits.{here_page}
-use Rattle.database.specs.Fetch.{home_page}
-use Rattle.database.specs.Shown.{ShowsNext}
-use Rattle.database.specs.Step.{Shows, first_home, last_page, onward, page_from, pair_shown, reachable, step_from, visited}
-use Rattle.database.specs.declared.Stepped.{Stepped}
-use Rattle.database.specs.declared.Stepped.TheVariants.{End, Pair}
+use Rattle.calls.specs.Fetch.{home_page}
+use Rattle.calls.specs.Shown.{ShowsNext}
+use Rattle.calls.specs.Step.{Shows, first_home, last_page, onward, page_from, pair_shown, reachable, step_from, visited}
+use Rattle.calls.specs.declared.Stepped.{Stepped}
+use Rattle.calls.specs.declared.Stepped.TheVariants.{End, Pair}
 use Rattle.directory.specs.Tree.{page_of}
 use Rattle.faults.specs.declared.Fault.{Fault}
 use Rattle.keys.specs.Hash.{hash}

@@ -1,5 +1,0 @@
-pub mod Fetch
-pub mod Step
-pub mod Delete
-pub mod Store
-pub mod Shown

@@ -1,7 +1,7 @@
 // Whether a bit is set under one of those that a store's splits would set.
-ghost use Rattle.std.specs.Prelude.{◌≡◌, ◌+◌, ◌*◌, ◌<◌, ◌≤◌, ◌/◌, ◌∷◌, [], Ok, Err, OnOk, ℕ, slice_index_or};
+ghost use Rattle.std.specs.Prelude.{◌+◌, ◌*◌, ◌<◌, ◌≤◌, ◌/◌, ◌∷◌, [], Ok, OnOk, ℕ};
 ghost use Rattle.contents.specs.Blocks.{bits_in, blocks_of};
-ghost use Rattle.database.specs.Store.{Slots, bits_clear, clear_pair, under_calls, up_to};
+ghost use Rattle.calls.specs.Store.{Slots, bits_clear, clear_pair, under_calls, up_to};
 ghost use Rattle.directory.specs.Tree.{node};
 ghost use Rattle.lookup.specs.Made.{Made};
 ghost use Rattle.lookup.specs.Reads.{another, blocks_of_bits, reads};
@@ -29,12 +29,13 @@ pub(crate) fn check_under<D: Device>(
     directory: &mut DirectoryBlocks,
 ) -> Result<(), Fault>
     requires deep { way.depth + splits ≤ 15 }
-    requires slot { way.depth < 15 × Slots (blocks_of (D.Device.meaning device.old)) directory.old (way.index / 8192) }
+    requires slot { 0 < splits → Slots (blocks_of (D.Device.meaning device.old)) directory.old (way.index / 8192) }
     ensures made { Made D.Device.steps D.Device.meaning device.old (λ blocks. under_calls (bits_in blocks) way.hash way.depth splits) (λ blocks. bits_clear (bits_in blocks) way.hash way.depth splits) result device.new }
     ensures read { OnOk result ((j : ℕ) → j < splits → Slots (blocks_of (D.Device.meaning device.old)) directory.new (node way.hash (way.depth + j) / 8192)) }
 {
-    let mut last = way.leaf().index / BITS;
-    for _ in 0..splits.min(LAST_DEPTH.saturating_sub(way.leaf().depth)) {
+    let leaf = way.leaf();
+    let mut last = leaf.index / BITS;
+    for _ in 0..splits.min(LAST_DEPTH.saturating_sub(leaf.depth)) {
         let index = way.leaf().index;
         clear_under(device, index, last, directory)?;
         last = (2 * index + 2) / BITS;
@@ -66,7 +67,7 @@ fn clear_under<D: Device>(
     Ok(())
 }
 
-// Whether bit i is set. Its block is read into its slot, unless it is the one that was read last.
+// Whether bit i is set, by its block, which is then in its slot.
 fn is_set_in<D: Device>(
     device: &mut D,
     i: u32,
@@ -79,9 +80,25 @@ fn is_set_in<D: Device>(
     ensures read { OnOk result (Slots (blocks_of (D.Device.meaning device.old)) directory.new (i / 8192)) }
     ensures kept { (b : ℕ) → Slots (blocks_of (D.Device.meaning device.old)) directory.old b → Slots (blocks_of (D.Device.meaning device.old)) directory.new b }
 {
-    let block = &mut directory[(i / BITS) as usize];
-    if i / BITS != last {
-        device.read(i / BITS, block)?;
+    turn_to_slot(device, i / BITS, last, directory)?;
+    Ok(is_set(&directory[(i / BITS) as usize], i % BITS))
+}
+
+// Reads block n into its slot, unless it is the one that was read last.
+fn turn_to_slot<D: Device>(
+    device: &mut D,
+    n: u32,
+    last: u32,
+    directory: &mut DirectoryBlocks,
+) -> Result<(), Fault>
+    requires range { n < 4 }
+    requires slot { Slots (blocks_of (D.Device.meaning device.old)) directory.old last }
+    ensures made { Made D.Device.steps D.Device.meaning device.old (λ blocks. reads (another last n)) (λ blocks. Ok tt) result device.new }
+    ensures read { OnOk result (Slots (blocks_of (D.Device.meaning device.old)) directory.new n) }
+    ensures kept { (b : ℕ) → Slots (blocks_of (D.Device.meaning device.old)) directory.old b → Slots (blocks_of (D.Device.meaning device.old)) directory.new b }
+{
+    if n == last {
+        return Ok(());
     }
-    Ok(is_set(block, i % BITS))
+    device.read(n, &mut directory[n as usize])
 }

@@ -1,8 +1,8 @@
 ghost use Rattle.std.specs.Prelude.{◌≡◌, ◌+◌, ◌<◌, ◌≤◌, length, List, Ok, Err, Option as Maybe, OnOk, IfOk, Some};
 ghost use Rattle.contents.specs.Blocks.{blocks_of};
 ghost use Rattle.contents.specs.Contents.{contents_of, held};
-ghost use Rattle.database.specs.Fetch.{BufferHas, fetch_calls, fetched, found, got, home_bytes, record_at};
-ghost use Rattle.database.specs.Shown.{ShowsRecord, ShowsValue};
+ghost use Rattle.calls.specs.Fetch.{BufferHas, fetch_calls, fetched, found, got, home_bytes, record_at};
+ghost use Rattle.calls.specs.Shown.{HoldsValue, ShowsRecord, ShowsValue};
 ghost use Rattle.lookup.specs.Made.{Made};
 
 use crate::Database;
@@ -31,6 +31,9 @@ impl<D: Device> Database<D> {
         ensures made { Made D.Device.steps D.Device.meaning self.old.device (λ blocks. fetch_calls blocks key.now (length page.old)) (λ blocks. got R.Record.decoded blocks key.now (length page.old)) result self.new.device }
         ensures page { BufferHas result (home_bytes (blocks_of (D.Device.meaning self.old.device)) key.now) page.old page.new }
         ensures shows { ShowsRecord R.Record.decoded (contents_of (blocks_of (D.Device.meaning self.old.device))) key.now result }
+        ensures back { (x : R) → R.Record.fits x → HoldsValue (contents_of (blocks_of (D.Device.meaning self.old.device))) key.now (R.Record.code x)
+            → 0 < length key.now → length page.old ≡ 1024
+            → got R.Record.decoded (blocks_of (D.Device.meaning self.old.device)) key.now (length page.old) ≡ Ok (Some x) }
     {
         let mut block = [0; BLOCK];
         let (home, place) = self.find(key, page.len(), &mut block)?;

@@ -2,37 +2,20 @@
 #![tactic(auto)]
 
 mod checking;
+mod deleting;
 mod fetching;
 mod splitting;
+mod storing;
 mod walking;
 
 ghost use Rattle.std.specs.Prelude.{◌≡◌, Ok, [], ◌∷◌};
+ghost use Rattle.devices.specs.Meaning.{Sound};
 ghost use Rattle.devices.specs.Step.{flush as Flushes};
 ghost use Rattle.lookup.specs.Made.{Made};
 
+pub use calls::{Position, Stepped};
 use devices::Device;
 use faults::Fault;
-use pages::Place;
-
-// A page, and a pair's number there.
-pub type Position = (u32, u32);
-
-// What a step of a walk answers: a pair, by the places of its key and its value in the page that was read, with the
-// position to go on from; or the end.
-#[derive(Clone, Copy, PartialEq, Eq, Debug)]
-pub enum Stepped {
-    Pair((Place, Place, Position)),
-    End,
-}
-
-// What a store does where the key is there.
-#[derive(Clone, Copy, PartialEq, Eq, Debug)]
-pub enum Mode {
-    // refuses
-    Insert,
-    // replaces its pair
-    Replace,
-}
 
 // A database, which alone uses its device.
 #[derive(Drop)]
@@ -53,6 +36,14 @@ impl<D: Device> Database<D> {
         ensures { result ≡ self.device }
     {
         self.device
+    }
+
+    // How many blocks the device has.
+    pub fn limit(&self) -> u32
+        ensures value { result ≡ (D.Device.meaning self.now.device).limit }
+        ensures sound { Sound (D.Device.meaning self.now.device) }
+    {
+        self.device.limit()
     }
 
     // Brings every block down to the device at the bottom.

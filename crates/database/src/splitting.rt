@@ -1,7 +1,7 @@
 // The claims and the writes of a store's splits.
-ghost use Rattle.std.specs.Prelude.{◌≡◌, ◌+◌, ◌<◌, ◌≤◌, ◌/◌, ◌∷◌, [], List, Ok, ℕ, slice_set};
+ghost use Rattle.std.specs.Prelude.{◌≡◌, ◌+◌, ◌<◌, ◌≤◌, ◌/◌, ◌∷◌, [], List, Ok, OnOk, ℕ, slice_set};
 ghost use Rattle.contents.specs.Blocks.{Blocks};
-ghost use Rattle.database.specs.Store.{Slots, claims, slot, split_write, split_writes, with_bit};
+ghost use Rattle.calls.specs.Store.{Slots, claims, slot, split_write, split_writes, with_bit};
 ghost use Rattle.devices.specs.Trace.{Did, Trace};
 ghost use Rattle.directory.specs.Tree.{node};
 ghost use Rattle.pages.specs.Blank.{bytes_of};
@@ -59,7 +59,7 @@ fn split_one<D: Device>(
 ) -> Result<(), Fault>
     requires { way.now.depth < 15 }
     ensures made { Trace (Did D.Device.steps D.Device.meaning) device.old (split_write (slot directory.old) (pairs_of (bytes_of page.now.good)) way.now.hash way.now.depth) (Ok tt) result device.new }
-    ensures bit { directory.new ≡ slice_set directory.old (way.now.index / 8192) (with_bit (slot directory.old (way.now.index / 8192)) way.now.index) }
+    ensures bit { OnOk result (directory.new ≡ slice_set directory.old (node way.now.hash way.now.depth / 8192) (with_bit (slot directory.old (node way.now.hash way.now.depth / 8192)) (node way.now.hash way.now.depth))) }
 {
     let leaf = way.leaf();
     let upper = leaf.page + (1 << leaf.depth);

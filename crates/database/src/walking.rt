@@ -1,16 +1,17 @@
 ghost use Rattle.std.specs.Prelude.{◌≡◌, ◌+◌, ◌-◌, ◌<◌, ◌≤◌, ◌==◌, ◌&&◌, nat_lt, length, Ok, OnOk};
 ghost use Rattle.contents.specs.Blocks.{bits_in, blocks_of};
 ghost use Rattle.contents.specs.Contents.{contents_of};
-ghost use Rattle.database.specs.Fetch.{BufferHas};
-ghost use Rattle.database.specs.Shown.{ShowsNext};
-ghost use Rattle.database.specs.Step.{calls_from, first_home, last_page, page_from, step_calls, step_from, step_page, stepped, visit_calls, visited};
+ghost use Rattle.calls.specs.Fetch.{BufferHas};
+ghost use Rattle.calls.specs.Shown.{ShowsNext};
+ghost use Rattle.calls.specs.Step.{calls_from, first_home, last_page, page_from, step_calls, step_from, step_page, stepped, visit_calls, visited};
 ghost use Rattle.directory.specs.Tree.{low};
 ghost use Rattle.keys.specs.Hash.{hash};
 ghost use Rattle.lookup.specs.Made.{Made};
 ghost use Rattle.pages.specs.Blank.{bytes_of};
 ghost use Rattle.pages.specs.Page.{key_of, pairs};
 
-use crate::{Database, Position, Stepped};
+use crate::Database;
+use calls::{Position, Stepped};
 use devices::{BLOCK, Device};
 use directory::Leaf;
 use faults::{Fault, Layer, Refusal};

@@ -5,9 +5,8 @@ mod options;
 
 use listing::{Request, list};
 use options::Options;
-use std::env;
-use std::io;
 use std::io::Read;
+use std::{env, io};
 
 // What is said to a command line that does not fit.
 const USAGE: &str = "give two files, and names on standard input, one on a line:

@@ -2,7 +2,7 @@
 ghost use Rattle.std.specs.Prelude.{◌≡◌};
 ghost use Rattle.contents.specs.Blocks.{blocks_of};
 ghost use Rattle.contents.specs.Contents.{contents_of};
-ghost use Rattle.database.specs.Shown.{ShowsNext};
+ghost use Rattle.calls.specs.Shown.{ShowsNext};
 ghost use Rattle.listing.specs.Shown.{ShowsBytes, ShowsPair};
 
 use database::{Database, Position, Stepped};

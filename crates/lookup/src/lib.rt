@@ -4,7 +4,7 @@
 ghost use Rattle.std.specs.Prelude.{◌≡◌, ◌+◌, ◌/◌, ◌%◌, ◌<◌, ◌∷◌, [], Ok, OnOk, IfOk, List};
 ghost use Rattle.contents.specs.Blocks.{bits_in, blocks_of, page_in};
 ghost use Rattle.directory.specs.Ending.{leaf_of};
-ghost use Rattle.directory.specs.Tree.{page_of};
+ghost use Rattle.directory.specs.Tree.{depth_of, index_of, page_of};
 ghost use Rattle.lookup.specs.Made.{Made};
 ghost use Rattle.lookup.specs.Pages.{GoodPage};
 ghost use Rattle.lookup.specs.Reads.{another, home_calls, lookup_calls, reads};
@@ -20,13 +20,10 @@ pub const DIRECTORY_BLOCKS: u32 = 4;
 
 const BITS: u32 = 8192;
 
-// Looks a hash up. The buffer is for the directory's blocks.
-pub fn look_up<D: Device>(
-    device: &mut D,
-    hash: u32,
-    block: &mut [u8; BLOCK],
-) -> Result<Leaf, Fault>
-    ensures { Made D.Device.steps D.Device.meaning device.old (λ blocks. lookup_calls blocks hash) (λ blocks. Ok (leaf_of (bits_in blocks) hash)) result device.new }
+// Looks a hash up. The buffer is for the directory's blocks: afterwards it has that of the bit at which the lookup ended.
+pub fn look_up<D: Device>(device: &mut D, hash: u32, block: &mut [u8; BLOCK]) -> Result<Leaf, Fault>
+    ensures made { Made D.Device.steps D.Device.meaning device.old (λ blocks. lookup_calls blocks hash) (λ blocks. Ok (leaf_of (bits_in blocks) hash)) result device.new }
+    ensures block { OnOk result (depth_of (bits_in (blocks_of (D.Device.meaning device.old))) hash < 15 → block.new ≡ blocks_of (D.Device.meaning device.old) (index_of (bits_in (blocks_of (D.Device.meaning device.old))) hash / 8192)) }
 {
     device.read(0, block)?;
     let mut last = 0;

@@ -1,5 +1,6 @@
 use Rattle.std.proofs.Common.{◌≡◌, ℕ, ◌+◌, ◌-◌, ◌*◌, ◌/◌, ◌%◌, ◌<◌, ◌≤◌, List, [], ◌∷◌, ◌++◌, length, get_or, take, drop, replicate, sym, refl, ap, ◌∙◌, subst, append_assoc, append-nil, arith, length-append}
 use Rattle.std.specs.List.{between}
+use Rattle.std.proofs.Math.Seq.{drop-append-add}
 use borrow.Rule.Slice.PartMut.{put_mid}
 use Rattle.std.proofs.lemmas.List.{take_at, drop_at, drop-drop, get_or_at, get_or-append-add, take-append-drop, length-take, length-take-le, length-drop}
 use Rattle.pages.specs.Page.{word, Pair}
@@ -65,6 +66,19 @@ take_put s b i h =
 
 pub length_put : (s b : List ℕ) (i : ℕ) → i + length b ≤ length s → length (put s i b) ≡ length s
 length_put s b i h = simp (length-append, length-take, length-drop) (omega arith)
+
+-- a write beside another
+pub put_beside : (s a b : List ℕ) (i j : ℕ) → j ≡ i + length a → j + length b ≤ length s → put (put s i a) j b ≡ put s i (a ++ b)
+put_beside s a b i j e h =
+    let front : take j (put s i a) ≡ take i s ++ a = ap (λ (n : ℕ). take n (put s i a)) e ∙ take_put s a i (omega arith) in
+    let n : length (take i s ++ a) ≡ j = length-append (take i s) a ∙ omega (arith, length-take-le i s (omega arith)) in
+    let back : drop (j + length b) (put s i a) ≡ drop (i + length (a ++ b)) s =
+    ap (drop (j + length b)) (sym (append_assoc (take i s) a (drop (i + length a) s)))
+    ∙ ap (λ (m : ℕ). drop (m + length b) ((take i s ++ a) ++ drop (i + length a) s)) (sym n)
+    ∙ drop-append-add (take i s ++ a) (drop (i + length a) s) (length b)
+    ∙ drop-drop (length b) (i + length a) s
+    ∙ ap (λ (m : ℕ). drop m s) (omega (arith, length-append a b)) in
+    rw (front, back) (simp append_assoc)
 
 -- a write to a part of a slice
 pub put_part : (s ys bs : List ℕ) (i k : ℕ) → ys ≡ bs → length bs ≡ k → put_mid i k s ys ≡ put s i bs

@@ -1,8 +1,8 @@
-ghost use Rattle.std.specs.Prelude.{Decides, ◌+◌, ◌*◌, ◌≤◌, length};
+ghost use Rattle.std.specs.Prelude.{Decides};
 ghost use Rattle.page_edits.specs.Edit.{Appended, with_pair};
 ghost use Rattle.page_edits.specs.Write.{Fits};
 ghost use Rattle.pages.specs.Blank.{bytes_of};
-ghost use Rattle.pages.specs.Page.{count, key_end, pairs, pairs_of};
+ghost use Rattle.pages.specs.Page.{pairs_of};
 
 use crate::packing::Packing;
 use faults::{Fault, Refusal};
@@ -12,7 +12,7 @@ use pages::{PAGE, PairPage};
 pub fn fits(page: &PairPage, key: &[u8], value: &[u8]) -> bool
     ensures { Decides result (Fits (with_pair (pairs_of (bytes_of page.now.good)) key.now value.now)) }
 {
-    !key.is_empty() && has_room(page, key.len(), value.len()) && page.number_of(key).is_none()
+    Packing::of(page).can_take(key, value) && page.number_of(key).is_none()
 }
 
 // The page with one more pair after the others, and whether it fits; where it does not, the buffer stays as it was.
@@ -26,17 +26,9 @@ pub fn append(page: &PairPage, key: &[u8], value: &[u8], out: &mut [u8]) -> Resu
     if !fits(page, key, value) {
         return Ok(false);
     }
-    let mut packing = Packing::of(page, out);
+    out.copy_from_slice(page.bytes());
+    let mut packing = Packing::of(page);
     packing.push(key, value, out);
     packing.finish(out);
     Ok(true)
-}
-
-// Whether there is room for one more pair whose key and value have these lengths.
-fn has_room(page: &PairPage, key: usize, value: usize) -> bool
-    ensures { Decides result (2 * count (bytes_of page.now.good) + 6 + (key + value) ≤ key_end (bytes_of page.now.good) (pairs (bytes_of page.now.good))) }
-{
-    let m = page.count();
-    let room = page.key_end(m) - (4 * m + 2);
-    key.saturating_add(value).saturating_add(4) <= room
 }

@@ -9,6 +9,6 @@ mod packing;
 mod removing;
 
 pub use appending::{append, fits};
-pub use keeping::keep;
+pub use keeping::{keep, keep_others, replace};
 pub use laws::{page_laws, worked_cases};
 pub use removing::without;

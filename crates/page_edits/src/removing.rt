@@ -24,7 +24,8 @@ pub fn without(page: &PairPage, key: &[u8], out: &mut [u8]) -> Result<bool, Faul
             Ok(true)
         }
         None => {
-            Packing::of(page, out).finish(out);
+            out.copy_from_slice(page.bytes());
+            Packing::of(page).finish(out);
             Ok(false)
         }
     }

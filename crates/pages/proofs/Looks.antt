@@ -1,12 +1,14 @@
 -- A search through a list of pairs, by number.
-use Rattle.std.proofs.Common.{◌≡◌, ℕ, zero, suc, ◌+◌, ◌-◌, ◌<◌, ◌≤◌, true, false, List, [], ◌∷◌, length, get_or, Some, None, sym, refl, ap, ◌∙◌, arith}
+use Rattle.std.proofs.Common.{◌≡◌, ℕ, zero, suc, ◌+◌, ◌-◌, ◌<◌, ◌≤◌, true, false, List, [], ◌∷◌, length, ◌++◌, get_or, drop, Some, None, sym, refl, ap, ◌∙◌, arith, take-add}
 use Rattle.keys.proofs.Sames.{laws}
 use Rattle.keys.specs.Same.{same}
 use Rattle.pages.proofs.Pages.{offsets_within}
-use Rattle.pages.specs.Page.{Apart, Laid, Pair, key_at, key_end, key_of, look, pair_of, pairs, pairs_of, val_at}
+use Rattle.pages.specs.Page.{Apart, Laid, Pair, key_at, key_end, key_of, look, pair_of, pairs, pairs_of, val_at, val_of}
 use Rattle.pages.specs.Read.{Found, PairAt, PartsAt, Place, ValueOf, Which, bytes_at}
 use Rattle.std.specs.Borrow.{Bor}
 use Rattle.std.proofs.lemmas.Bool.{false_from_ne_true}
+use Rattle.std.proofs.lemmas.List.{drop-drop}
+use Rattle.std.proofs.lemmas.List.Edits.{length-between}
 use Rattle.std.proofs.lemmas.List.FromFn.{get_or-map-range_with_len, length-map-range_with_len}
 
 abbrev pub none : Pair
@@ -56,12 +58,22 @@ pub value_at : (page key : List ℕ) (k : ℕ) (p : Bor (List ℕ) × Bor (List 
 value_at page key k p apart e at =
     (key_of page k, page_some page key k apart at.0 e ∙ ap (λ (v : List ℕ). Some (key_of page k, v)) (sym at.2))
 
--- the places of a pair lie inside
-pub places_within : (page : List ℕ) → Laid page (pairs page) → (k : ℕ) (key val : Place) → PairAt page k (Some (key, val)) → (key.0 + key.1 ≤ 1024) × (val.0 + val.1 ≤ 1024)
-places_within page laid k key val h =
-    let w = offsets_within page (pairs page) laid k h.0 in
-    let a : key.0 ≡ key_at page k = ap (λ (q : Place × Place). q.0.0) h.1 in
-    let b : key.1 ≡ key_end page k - key_at page k = ap (λ (q : Place × Place). q.0.1) h.1 in
-    let c : val.0 ≡ val_at page k = ap (λ (q : Place × Place). q.1.0) h.1 in
-    let d : val.1 ≡ key_at page k - val_at page k = ap (λ (q : Place × Place). q.1.1) h.1 in
-    (omega (arith, w.1, w.2), omega (arith, w.0, w.1, w.2))
+-- the bytes of a pair lie together, the value and then the key
+module _ (page : List ℕ) (whole : length page ≡ 1024) (laid : Laid page (pairs page)) (k x key_len from value_len : ℕ) (at : PairAt page k (Some ((x, key_len), (from, value_len)))) where
+  places : (key_len ≡ key_end page k - key_at page k) × (from ≡ val_at page k) × (value_len ≡ key_at page k - val_at page k)
+  places =
+      let h = at.1 in
+      (ap (λ (q : Place × Place). q.0.1) h, ap (λ (q : Place × Place). q.1.0) h, ap (λ (q : Place × Place). q.1.1) h)
+
+  within : (val_at page k ≤ key_at page k) × (key_at page k ≤ key_end page k) × (key_end page k ≤ 1024)
+  within = offsets_within page (pairs page) laid k at.0
+
+  pub lies_within : from + (value_len + key_len) ≤ 1024
+  lies_within = omega (arith, places, within)
+
+  pub lies_at : (part : List ℕ) (n : ℕ) → part ≡ bytes_at page (from, value_len + key_len) → n ≡ value_len → (k < pairs page) × (part ≡ val_of page k ++ key_of page k) × (n ≡ length (val_of page k))
+  lies_at part n e m =
+      let key_at_is : from + value_len ≡ key_at page k = omega (arith, places, within) in
+      let key_is : drop value_len (drop from page) ≡ drop (key_at page k) page = drop-drop value_len from page ∙ ap (λ (n : ℕ). drop n page) key_at_is in
+      let long = length-between page (val_at page k) (key_at page k) (omega (arith, within)) in
+      (at.0, e ∙ take-add value_len key_len (drop from page) ∙ cc (places.0, places.1, places.2), omega (arith, places, within, long))

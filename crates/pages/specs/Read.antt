@@ -1,5 +1,5 @@
 -- What the functions on pages answer.
-use Rattle.std.specs.Prelude.{◌≡◌, ℕ, ◌+◌, ◌-◌, ◌<◌, ◌≤◌, true, false, cond, List, length, take, drop, Some, None, Ok, Err, Option, Result, ◌==◌, nat_le}
+use Rattle.std.specs.Prelude.{◌≡◌, ℕ, ◌+◌, ◌-◌, ◌<◌, ◌≤◌, true, false, cond, List, ◌++◌, length, take, drop, Some, None, Ok, Err, Option, Result, ◌==◌, nat_le}
 use Rattle.std.specs.Borrow.{Bor}
 use Rattle.faults.specs.declared.Fault.{Fault}
 use Rattle.faults.specs.Numbers.{numbers}
@@ -34,6 +34,11 @@ PartsAt page k (Some p) = (k < pairs page) × (p.0.now ≡ key_of page k) × (p.
 abbrev pub Which : List ℕ → ℕ → List ℕ → Option ℕ → Type 0
 Which page m key None = (i : ℕ) → i < m → same (key_of page i) key ≡ false
 Which page m key (Some k) = (k < m) × (same (key_of page k) key ≡ true)
+
+-- the same pair, as its bytes lie, the value first, and how many of them are the value's
+abbrev pub LiesAt : List ℕ → ℕ → Option (Bor (List ℕ) × ℕ) → Type 0
+LiesAt page k None = pairs page ≤ k
+LiesAt page k (Some p) = (k < pairs page) × (p.0.now ≡ val_of page k ++ key_of page k) × (p.1 ≡ length (val_of page k))
 
 -- a search for a key: it ends at the value of the pair that has the key, or nowhere exactly when no pair has it
 abbrev pub Found : List ℕ → List ℕ → Option Place → Type 0

@@ -2,7 +2,7 @@ ghost use Rattle.std.specs.Prelude.{◌≡◌, ◌+◌, ◌-◌, ◌≤◌, min,
 ghost use Rattle.pages.specs.Blank.{bytes_of};
 ghost use Rattle.pages.specs.Check.{Checked};
 ghost use Rattle.pages.specs.Page.{Good, key_end, pairs};
-ghost use Rattle.pages.specs.Read.{Found, PairAt, PartsAt, ValueOf, Which, bytes_at, told_part, viewed};
+ghost use Rattle.pages.specs.Read.{Found, LiesAt, PairAt, PartsAt, ValueOf, Which, bytes_at, told_part, viewed};
 
 use crate::checking::{as_good, get16, key_at, key_end, number_among, val_at};
 use crate::page::{PAGE, PairPage, Place};
@@ -69,12 +69,22 @@ impl<'a> PairPage<'a> {
         Some((place(at, key_end(page, k)), place(val_at(page, k), at)))
     }
 
+    // The bytes of pair k as they lie in the page, its value and then its key, and how many of them are the value's.
+    pub fn pair_bytes(&self, k: usize) -> Option<(&'a [u8], usize)>
+        ensures { LiesAt (bytes_of self.now.good) k result }
+    {
+        let ((_, key_len), (from, value_len)) = self.pair(k)?;
+        let pair = part(self.block(), (from, value_len + key_len));
+        Some((pair, usize::from(value_len)))
+    }
+
     // The key and the value of pair k, as they lie in the page.
     pub fn parts(&self, k: usize) -> Option<(&'a [u8], &'a [u8])>
         ensures { PartsAt (bytes_of self.now.good) k result }
     {
-        let (key, value) = self.pair(k)?;
-        Some((part(self.block(), key), part(self.block(), value)))
+        let (pair, value_len) = self.pair_bytes(k)?;
+        let (value, key) = pair.split_at(value_len);
+        Some((key, value))
     }
 
     // Which pair has the key.

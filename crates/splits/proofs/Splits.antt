@@ -24,7 +24,7 @@ pub put_other : {X : Type 0} (f : ℕ → X) (n : ℕ) (v : X) (k : ℕ) → (k 
 put_other f n v k ne = cond-false (eqb k n) v (f k) (ne_eqb k n ne)
 
 -- one level down, either to the same number or 2^t above it
-half : (h t : ℕ) → (low h (suc t) ≡ low h t) ⊎ (low h (suc t) ≡ low h t + 2 ^ t)
+pub half : (h t : ℕ) → (low h (suc t) ≡ low h t) ⊎ (low h (suc t) ≡ low h t + 2 ^ t)
 half h t = by (bit h t) (omega arith) (low_suc h t)
   where
     by : (b : ℕ) → b < 2 → low h (suc t) ≡ low h t + b * 2 ^ t → (low h (suc t) ≡ low h t) ⊎ (low h (suc t) ≡ low h t + 2 ^ t)

@@ -1,0 +1,11 @@
+pub mod Rules
+pub mod Quiet
+pub mod Holds
+pub mod Marks
+pub mod Writes
+pub mod Homes
+pub mod Traces
+pub mod Outcomes
+pub mod Deletes
+pub mod Flats
+pub mod Stores

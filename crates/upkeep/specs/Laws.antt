@@ -1,5 +1,5 @@
 -- What each call of a database leaves of the pairs that it holds, whatever it is answered.
-use Rattle.std.specs.Prelude.{◌≡◌, ◌≢◌, ℕ, List, [], ◌∷◌, Bool, ⊤, Ok, Err, Result}
+use Rattle.std.specs.Prelude.{◌≡◌, ◌≢◌, ℕ, List, [], Bool, ⊤, Ok, Err, Result}
 use Rattle.calls.specs.Delete.{delete_calls, deleted}
 use Rattle.calls.specs.Store.{store_calls, stored}
 use Rattle.calls.specs.declared.Mode.{Mode}
@@ -27,7 +27,7 @@ HoldsExactly = (pairs : List Pair) (d : Meaning) → Holding pairs d → Exactly
 
 -- what calls are answered is by the rules of the device
 abbrev pub AnsweredByRule : Type 0 → Type 0
-AnsweredByRule X = (cs : List Call) (d e : Meaning) (own r : Result X Fault) → Lawful d → Trace Step d cs own r e → ByRule d cs own r e
+AnsweredByRule X = (cs : List Call) (d e : Meaning) (own r : Result X Fault) → Trace Step d cs own r e → ByRule d cs own r e
 
 -- reads and a flush change no pair, and after a flush that was accepted the backing blocks alone hold the same pairs
 abbrev pub ReadsKeep : Type 0 → Type 0

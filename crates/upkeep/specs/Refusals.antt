@@ -1,5 +1,5 @@
 -- Which refusal a list of calls on a device meets first, where the device does not fail.
-use Rattle.std.specs.Prelude.{◌≡◌, ◌⊎◌, ℕ, ◌-◌, Bool, true, false, cond, List, [], ◌∷◌, length, Some, None, Ok, Err, Option, Result, ◌==◌, nat_lt}
+use Rattle.std.specs.Prelude.{◌≡◌, ◌⊎◌, ℕ, ◌-◌, true, cond, List, [], ◌∷◌, length, Some, None, Ok, Err, Option, Result, ◌==◌, nat_lt}
 use Rattle.devices.specs.Meaning.{Meaning, put}
 use Rattle.devices.specs.Step.{Call, Failed, claim, fault, flush, read, write}
 use Rattle.faults.specs.declared.Fault.{Fault}
@@ -9,9 +9,9 @@ use Rattle.faults.specs.declared.Refusal.TheVariants.{NotABlock, NotHeld, PastLi
 abbrev pub past : Meaning → ℕ → Option Fault → Option Fault
 past d n rest = cond (nat_lt n d.limit) rest (Some (fault PastLimit d.layer n))
 
--- a device after a claim that it accepted
+-- a device after it accepted a claim of a number that was not held
 abbrev pub after_claim : Meaning → ℕ → Meaning
-after_claim d n = cond (d.held n) d (record d { held = put d.held n true; left = d.left - 1 })
+after_claim d n = record d { held = put d.held n true; left = d.left - 1 }
 
 -- the first refusal of these calls, by the rules of a claim, a read, a write and a flush; none where all are accepted
 abbrev pub first_refusal : Meaning → List Call → Option Fault

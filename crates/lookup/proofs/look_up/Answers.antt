@@ -2,19 +2,19 @@ use Rattle.std.proofs.Common.{◌≡◌, ℕ, suc, ◌/◌, ◌<◌, true, false
 use Rattle.contents.specs.Blocks.{Blocks, bits_in, blocks_of}
 use Rattle.devices.specs.Trace.{Did, Trace}
 use Rattle.directory.proofs.Leaves.{leaf_is}
-use Rattle.directory.proofs.Lookups.{below_suc}
+use Rattle.directory.proofs.Lookups.{below_suc, index_on_way}
 use Rattle.directory.specs.Ending.{leaf_of}
-use Rattle.directory.specs.Tree.{node}
+use Rattle.directory.specs.Tree.{index_of, node}
 use Rattle.directory.specs.declared.Leaf.{Leaf}
 use Rattle.faults.specs.declared.Fault.{Fault}
-use Rattle.lookup.proofs.Looking.{first_read, first_refused, tested_last, tested_next, tested_out}
+use Rattle.lookup.proofs.Looking.{ended, not_above, first_read, first_refused, tested_last, tested_next, tested_out}
 use Rattle.lookup.proofs.Reading.{answer_is, filled_shown, go_on, kept_blocks, own_answer, reads_keep, stop}
 use Rattle.lookup.proofs.look_up.Goals as goal
 use Rattle.lookup.proofs.look_up.Goals.{in-Some+in_ok-is_set_on+then-not-branch, in_default}
 use Rattle.lookup.specs.Reads.{another, blocks_of_bits, lookup_calls, reads, tested}
 
-pub returns-in_err-read : goal.returns-in_err-read
-returns-in_err-read g c =
+pub returns-in_err-read-clause-made : goal.returns-in_err-read-clause-made
+returns-in_err-read-clause-made g c =
     let steps = g.D.Device.steps in
     let M = g.D.Device.meaning in
     let blocks = blocks_of (M c.args.device.now) in
@@ -44,8 +44,8 @@ loop-i-init g c =
 pub is_set_on-requires-clause-last : goal.is_set_on-requires-clause-last
 is_set_on-requires-clause-last g c = c.loop-i.invariant.block ∙ ap (λ (b : Blocks). b c.loop-i.last) (sym c.loop-i.invariant.same)
 
-pub returns-in_err-is_set_on : goal.returns-in_err-is_set_on
-returns-in_err-is_set_on g c =
+pub returns-in_err-is_set_on-clause-made : goal.returns-in_err-is_set_on-clause-made
+returns-in_err-is_set_on-clause-made g c =
     let did = Did g.D.Device.steps g.D.Device.meaning in
     let bits = bits_in (blocks_of (g.D.Device.meaning c.args.device.now)) in
     let own : Result Leaf Fault = Ok (leaf_of bits c.args.hash) in
@@ -95,8 +95,8 @@ loop-i-preserved g c =
           (subst (λ (k : ℕ). Trace did m (reads (blocks_of_bits (i / 8192) (tested bits h k))) own r e) depth u)));
     }
 
-pub returns : goal.returns
-returns g c =
+pub returns-clause-made : goal.returns-clause-made
+returns-clause-made g c =
     let did = Did g.D.Device.steps g.D.Device.meaning in
     let bits = bits_in (blocks_of (g.D.Device.meaning c.args.device.now)) in
     let own : Result Leaf Fault = Ok (leaf_of bits c.args.hash) in
@@ -105,26 +105,47 @@ returns g c =
     let last = c.loop-i.last in
     let d = c.loop-i.device in
     let leaf_at : (t < 15 → bits (node c.loop-i.way.hash t) ≡ false) → c.leaf.result ≡ leaf_of bits h =
-        λ clear. leaf_is bits h c.loop-i.way.hash t c.leaf.result c.loop-i.invariant.hash c.loop-i.way.limit c.loop-i.invariant.above clear c.leaf.ensures in
+    λ clear. leaf_is bits h c.loop-i.way.hash t c.leaf.result c.loop-i.invariant.hash c.loop-i.way.limit c.loop-i.invariant.above clear c.leaf.ensures in
     c.loop-i.invariant.rest (Ok c.leaf.result) c.match-bit.device
     (elim c.match-bit.branch [
-      in-Some+in_ok-is_set_on+then-not-branch w ↦
-        let i = w.in-Some.i in
-        let m = w.is_set_on.new.device in
-        let room = w.in-Some.ensures.0 in
-        let above = c.loop-i.invariant.above in
-        let at : i ≡ node h t = w.in-Some.ensures.1 ∙ ap (λ (k : ℕ). node k t) c.loop-i.invariant.hash in
-        let made = w.in_ok-is_set_on.ensures.made in
-        let found = answer_is (own_answer did (reads (another last (i / 8192))) d m _ _ made) in
-        let clear : bits (node h t) ≡ false =
-        ap bits (sym at) ∙ ap (λ (b : Blocks). bits_in b i) (sym c.loop-i.invariant.same) ∙ sym found ∙ w.if-not-branch.true in
-        let one : tested bits h t ≡ i ∷ [] =
-        tested_next bits h t above room ∙ ap (λ (k : List ℕ). node h t ∷ k) (tested_last bits h t above room clear) ∙ ap (λ (k : ℕ). k ∷ []) (sym at) in
-        let leaf = leaf_at (λ _. ap (λ (k : ℕ). bits (node k t)) c.loop-i.invariant.hash ∙ clear) in
-        subst (λ (is : List ℕ). Trace did d (reads (blocks_of_bits last is)) own (Ok c.leaf.result) c.match-bit.device) (sym one)
-        (go_on did last i [] d m c.match-bit.device _ _ own (Ok c.leaf.result) made (ap Ok leaf, w.device-is))
-    | in_default w ↦
-        let leaf = leaf_at (λ l. absurd (omega (arith, w.in_default.ensures))) in
-        subst (λ (is : List ℕ). Trace did d (reads (blocks_of_bits last is)) own (Ok c.leaf.result) c.match-bit.device)
-        (sym (tested_out bits h t c.loop-i.invariant.above w.in_default.ensures)) (ap Ok leaf, w.device-is)
+      | in-Some+in_ok-is_set_on+then-not-branch w ↦
+          let i = w.in-Some.i in
+          let m = w.is_set_on.new.device in
+          let room = w.in-Some.ensures.0 in
+          let above = c.loop-i.invariant.above in
+          let at : i ≡ node h t = w.in-Some.ensures.1 ∙ ap (λ (k : ℕ). node k t) c.loop-i.invariant.hash in
+          let made = w.in_ok-is_set_on.ensures.made in
+          let found = answer_is (own_answer did (reads (another last (i / 8192))) d m _ _ made) in
+          let clear : bits (node h t) ≡ false =
+          ap bits (sym at) ∙ ap (λ (b : Blocks). bits_in b i) (sym c.loop-i.invariant.same) ∙ sym found ∙ w.if-not-branch.true in
+          let one : tested bits h t ≡ i ∷ [] =
+          tested_next bits h t above room ∙ ap (λ (k : List ℕ). node h t ∷ k) (tested_last bits h t above room clear) ∙ ap (λ (k : ℕ). k ∷ []) (sym at) in
+          let leaf = leaf_at (λ _. ap (λ (k : ℕ). bits (node k t)) c.loop-i.invariant.hash ∙ clear) in
+          subst (λ (is : List ℕ). Trace did d (reads (blocks_of_bits last is)) own (Ok c.leaf.result) c.match-bit.device) (sym one)
+          (go_on did last i [] d m c.match-bit.device _ _ own (Ok c.leaf.result) made (ap Ok leaf, w.device-is))
+      | in_default w ↦
+          let leaf = leaf_at (λ l. absurd (omega (arith, w.in_default.ensures))) in
+          subst (λ (is : List ℕ). Trace did d (reads (blocks_of_bits last is)) own (Ok c.leaf.result) c.match-bit.device)
+          (sym (tested_out bits h t c.loop-i.invariant.above w.in_default.ensures)) (ap Ok leaf, w.device-is)
     ])
+
+-- the buffer has the block of the bit that was tested last, which is the one at which the lookup ended
+pub returns-clause-block : goal.returns-clause-block
+returns-clause-block g c =
+    let did = Did g.D.Device.steps g.D.Device.meaning in
+    let blocks = blocks_of (g.D.Device.meaning c.args.device.now) in
+    let bits = bits_in blocks in
+    let h = c.args.hash in
+    let t = c.loop-i.way.depth in
+    let d = c.loop-i.device in
+    let above = c.loop-i.invariant.above in
+    elim c.match-bit.branch [
+      | in-Some+in_ok-is_set_on+then-not-branch w ↦
+          let i = w.in-Some.i in
+          let at : i ≡ node h t = w.in-Some.ensures.1 ∙ ap (λ (k : ℕ). node k t) c.loop-i.invariant.hash in
+          let found = answer_is (own_answer did (reads (another c.loop-i.last (i / 8192))) d w.is_set_on.new.device _ _ w.in_ok-is_set_on.ensures.made) in
+          let clear : bits (node h t) ≡ false = ap bits (sym at) ∙ ap (λ (b : Blocks). bits_in b i) (sym c.loop-i.invariant.same) ∙ sym found ∙ w.if-not-branch.true in
+          let index : i ≡ index_of bits h = at ∙ ap (node h) (sym (ended bits h t above w.in-Some.ensures.0 clear)) ∙ sym (index_on_way bits h) in
+          λ _. w.block-is ∙ w.in_ok-is_set_on.ensures.block ∙ ap (λ (b : Blocks). b (i / 8192)) c.loop-i.invariant.same ∙ ap (λ (k : ℕ). blocks (k / 8192)) index
+      | in_default w ↦ λ l. absurd (omega (arith, not_above bits h t above c.loop-i.way.limit, w.in_default.ensures))
+    ]

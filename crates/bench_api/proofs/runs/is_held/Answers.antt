@@ -1,6 +1,6 @@
 use Rattle.std.proofs.Common.{length}
 use Rattle.database.proofs.Keeps.{fetch_keeps}
-use Rattle.database.specs.Fetch.{fetched}
+use Rattle.calls.specs.Fetch.{fetched}
 use Rattle.bench_api.proofs.runs.is_held.Goals as goal
 
 pub returns-in_err-ok-clause-same : goal.returns-in_err-ok-clause-same

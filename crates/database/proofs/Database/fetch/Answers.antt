@@ -1,10 +1,10 @@
 use Rattle.std.proofs.Common.{◌≡◌, length, Ok, Err, Option, Result, sym, subst, ◌∙◌, rules, refl}
 use Rattle.contents.specs.Blocks.{blocks_of}
 use Rattle.contents.specs.Contents.{contents_of}
-use Rattle.database.specs.Shown.{ShowsValue}
+use Rattle.calls.specs.Shown.{ShowsValue}
 use Rattle.database.proofs.Fetches.{home_good, place_there, value_shown}
 use Rattle.database.proofs.Database.fetch.Goals as goal
-use Rattle.database.specs.Fetch.{fetch_calls, found, fetched, place_alone}
+use Rattle.calls.specs.Fetch.{fetch_calls, found, fetched, place_alone}
 use Rattle.devices.specs.Trace.{Did, Trace}
 use Rattle.faults.specs.declared.Fault.{Fault}
 use Rattle.lookup.proofs.Reading.{mapped, own_answer}

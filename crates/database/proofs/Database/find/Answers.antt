@@ -4,7 +4,7 @@ use Rattle.database.proofs.Fetches.{answer_bad, answer_good, calls_asked}
 use Rattle.database.proofs.Database.find.Goals as goal
 use Rattle.contents.specs.Test.{is_good}
 use Rattle.std.proofs.lemmas.Bool.{eq-eqb}
-use Rattle.database.specs.Fetch.{fetch_calls, found, home_bytes, home_page}
+use Rattle.calls.specs.Fetch.{fetch_calls, found, home_bytes, home_page}
 use Rattle.devices.specs.Step.{Call}
 use Rattle.devices.specs.Trace.{Did, Trace}
 use Rattle.directory.proofs.Lookups.{page_below}

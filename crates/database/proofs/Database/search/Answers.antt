@@ -2,7 +2,7 @@ use Rattle.std.proofs.Common.{◌≡◌, ◌<◌, Ok, Err, ap, ◌∙◌, rules,
 use Rattle.contents.specs.Blocks.{blocks_of}
 use Rattle.database.proofs.Database.search.Goals as goal
 use Rattle.database.proofs.Steps.{page_found, page_on, visit_found, visit_keeps, visit_on, visit_refused}
-use Rattle.database.specs.declared.Stepped.TheVariants.{Pair}
+use Rattle.calls.specs.declared.Stepped.TheVariants.{Pair}
 
 pub returns-in_err-pair-clause-made : goal.returns-in_err-pair-clause-made
 returns-in_err-pair-clause-made g c =

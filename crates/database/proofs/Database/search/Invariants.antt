@@ -1,7 +1,7 @@
 use Rattle.std.proofs.Common.{◌≡◌, ◌-◌, Result}
 use Rattle.contents.specs.Blocks.{blocks_of}
-use Rattle.database.specs.Step.{calls_from, page_from, step_from}
-use Rattle.database.specs.declared.Stepped.{Stepped}
+use Rattle.calls.specs.Step.{calls_from, page_from, step_from}
+use Rattle.calls.specs.declared.Stepped.{Stepped}
 use Rattle.devices.specs.Trace.{Did, Trace}
 use Rattle.faults.specs.declared.Fault.{Fault}
 use Rattle.database.proofs.Database.search.Given as goal

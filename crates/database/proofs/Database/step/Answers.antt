@@ -4,9 +4,9 @@ use Rattle.contents.specs.Contents.{contents_of}
 use Rattle.database.proofs.Database.step.Goals as goal
 use Rattle.database.proofs.Steps.{not_whole, whole_trace}
 use Rattle.database.proofs.Walks.{step_shows}
-use Rattle.database.specs.Shown.{ShowsNext}
-use Rattle.database.specs.Step.{calls_from, page_from, step_from, step_page}
-use Rattle.database.specs.declared.Stepped.{Stepped}
+use Rattle.calls.specs.Shown.{ShowsNext}
+use Rattle.calls.specs.Step.{calls_from, page_from, step_from, step_page}
+use Rattle.calls.specs.declared.Stepped.{Stepped}
 use Rattle.devices.specs.Trace.{Did}
 use Rattle.faults.specs.declared.Fault.{Fault}
 use Rattle.lookup.proofs.Reading.{own_answer}

@@ -2,7 +2,7 @@ use Rattle.std.proofs.Common.{◌≡◌, ◌+◌, ◌-◌, ◌<◌, ◌==◌, �
 use Rattle.database.proofs.Finds.{First, find_first, first_below, one_first}
 use Rattle.database.proofs.walking.first_home.Goals as goal
 use Rattle.database.proofs.walking.first_home.Goals.{After-find}
-use Rattle.database.specs.Step.{pair_shown}
+use Rattle.calls.specs.Step.{pair_shown}
 use Rattle.directory.specs.Tree.{low}
 use Rattle.keys.specs.Hash.{hash}
 use Rattle.pages.specs.Blank.{bytes_of}

@@ -1,6 +1,6 @@
 use Rattle.std.proofs.Common.{length}
+use Rattle.calls.specs.Step.{stepped}
 use Rattle.database.proofs.Keeps.{step_keeps}
-use Rattle.database.specs.Step.{stepped}
 use Rattle.listing.proofs.reading.step.Goals as goal
 
 pub returns-clause-same : goal.returns-clause-same

@@ -14,4 +14,4 @@ returns-in-Some-number_of c =
 pub returns-in-None : goal.returns-in-None
 returns-in-None c =
     let o = without_none c.args.page.now c.args.key.now c.in-None.ensures in
-    (c.in-Some.ensures.variant.0 refl, o.0, c.finish-in-None.ensures _ c.of.ensures ∙ ap written o.1)
+    (c.in-Some.ensures.variant.0 refl, o.0, c.finish-in-None.ensures _ (rw (c.copy_from_slice.ensures.after ∙ c.bytes.ensures) c.of.ensures) ∙ ap written o.1)

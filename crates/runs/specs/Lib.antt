@@ -1,0 +1,3 @@
+pub mod Reference
+pub mod Performed
+pub mod Law

@@ -1,16 +1,28 @@
-// The page functions as C calls them, for the benchmark in bench/pages. Each call checks its page.
+// The page functions as C calls them, for the benchmark in bench/pages, where each call checks its page; and runs of fetches and
+// walks of a database, for the one in bench/database.
 #![tactic(auto)]
 
-ghost use Rattle.std.specs.Prelude.{◌≡◌, Decides};
+mod runs;
+
+ghost use Rattle.std.specs.Prelude.{◌≡◌, ◌*◌, Decides, IfSome};
 ghost use Rattle.keys.specs.Hash.{hash};
 ghost use Rattle.bench_api.specs.Answers.{Edited, IfItFits, StartsAt};
+ghost use Rattle.bench_api.specs.Runs.{Counts, held_among, pairs_held, slots_of};
+ghost use Rattle.contents.specs.Blocks.{blocks_of};
+ghost use Rattle.contents.specs.Contents.{contents_of};
+ghost use Rattle.flat.specs.Blocks.{flat};
 ghost use Rattle.page_edits.specs.Edit.{dropped, falling, with_pair};
 ghost use Rattle.page_edits.specs.Write.{written};
 ghost use Rattle.pages.specs.Page.{Good, pairs_of};
+ghost use Rattle.slotted.specs.Image.{meaning_of};
 
+use flat::Flat;
 use keys::hash_of;
 use page_edits::{append, keep, without};
 use pages::PairPage;
+use runs::{NONE, fetches, walks};
+use slotted::Slotted;
+use std::alloc::Global;
 
 // What sym_find answers where the key is not there, and where the page is not good: no offset is as large. C's interface
 // needs the two codes, as one number stands for all three answers.
@@ -75,4 +87,77 @@ pub extern "C" fn sym_keep(page: &[u8], bits: u32, low: u32, out: &mut [u8]) -> 
         return false;
     };
     keep(&pairs, bits, low, out).is_ok()
+}
+
+// Fetches each of the names, so many times over, from the database in an image, through a cache or not, and answers how many were
+// found; the largest number where a call was refused or there was no memory.
+#[unsafe(no_mangle)]
+pub extern "C" fn sym_fetch_flat(
+    heap: Global,
+    image: &[u8],
+    cached: bool,
+    names: &[u8],
+    rounds: u32,
+) -> u64
+    ensures { Counts (rounds * held_among (contents_of (blocks_of (flat image.now))) (slots_of names.now)) result }
+{
+    let Some(device) = open_flat(heap, image) else {
+        return NONE;
+    };
+    fetches(device, cached, names, rounds)
+}
+
+// The same from a slotted image.
+#[unsafe(no_mangle)]
+pub extern "C" fn sym_fetch_slotted(
+    heap: Global,
+    image: &[u8],
+    cached: bool,
+    names: &[u8],
+    rounds: u32,
+) -> u64
+    ensures { Counts (rounds * held_among (contents_of (blocks_of (meaning_of image.now))) (slots_of names.now)) result }
+{
+    let Some(device) = open_slotted(heap, image) else {
+        return NONE;
+    };
+    fetches(device, cached, names, rounds)
+}
+
+// Walks over the database in an image, so many times, and answers how many pairs were shown.
+#[unsafe(no_mangle)]
+pub extern "C" fn sym_walk_flat(heap: Global, image: &[u8], cached: bool, rounds: u32) -> u64
+    ensures { Counts (rounds * pairs_held (contents_of (blocks_of (flat image.now)))) result }
+{
+    let Some(device) = open_flat(heap, image) else {
+        return NONE;
+    };
+    walks(device, cached, rounds)
+}
+
+// The same of a slotted image.
+#[unsafe(no_mangle)]
+pub extern "C" fn sym_walk_slotted(heap: Global, image: &[u8], cached: bool, rounds: u32) -> u64
+    ensures { Counts (rounds * pairs_held (contents_of (blocks_of (meaning_of image.now)))) result }
+{
+    let Some(device) = open_slotted(heap, image) else {
+        return NONE;
+    };
+    walks(device, cached, rounds)
+}
+
+// A flat device of a copy of an image; none where there is no memory.
+fn open_flat(heap: Global, image: &[u8]) -> Option<Flat>
+    ensures { IfSome result (λ device. device.bytes.items ≡ image.now) }
+{
+    let bytes = image.to_vec(heap).ok()?;
+    Some(Flat::new(bytes))
+}
+
+// The same of a slotted device.
+fn open_slotted(heap: Global, image: &[u8]) -> Option<Slotted>
+    ensures { IfSome result (λ device. device.bytes.items ≡ image.now) }
+{
+    let bytes = image.to_vec(heap).ok()?;
+    Slotted::open(heap, bytes).ok()
 }

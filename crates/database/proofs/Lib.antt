@@ -8,3 +8,4 @@ pub mod Halves
 pub mod Rooms
 pub mod Stored
 pub mod Deletes
+pub mod Keeps

@@ -28,7 +28,7 @@ use Rattle.std.proofs.lemmas.Bool.{cond-false, cond-true, eq-eqb, le-leb, lt-leb
 use Rattle.std.proofs.lemmas.List.{length-replicate}
 use Rattle.upkeep.proofs.Clear.{by_plan, no_page, no_plan, none_set}
 use Rattle.upkeep.proofs.Holds.{bits_blank, blank_page, pages_blank}
-use Rattle.upkeep.proofs.Marks.{contents_marked, contents_written, marked}
+use Rattle.calls.proofs.Marks.{contents_marked, contents_written, marked}
 use Rattle.upkeep.specs.Cases.{StoreCases, TwoStores, alone, blocks_after, claimed, key_a, key_c, key_like_a}
 use Rattle.upkeep.specs.Holding.{BlankBlocks}
 

@@ -60,11 +60,13 @@ fn make_part(rt: &HostRuntime) -> anyhow::Result<Vec<u8>> {
     let bottom = Quota::new(blank(rt.alloc())?, CLAIMS);
     let mut database = Database::new(Cache::new(bottom));
     work(rt, &mut database, calls.as_slice())?;
-    Ok(database
-        .into_device()
-        .into_below()
-        .into_below()
-        .into_bytes())
+    Ok(
+        database
+            .into_device()
+            .into_below()
+            .into_below()
+            .into_bytes(),
+    )
 }
 
 // The library is opened again: a walk, names looked up, and one deleted.

@@ -86,10 +86,7 @@ pub fn member_puts(heap: Global) -> Result<Vec<Call<'static, Item, Kind>>, Alloc
             length,
             sort,
         };
-        calls.push(Call::Put(
-            name.as_bytes(),
-            Either::Second(Only(member)),
-        ))?;
+        calls.push(Call::Put(name.as_bytes(), Either::Second(Only(member))))?;
         offset = offset.saturating_add(length);
     }
     Ok(calls)

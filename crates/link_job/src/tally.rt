@@ -19,7 +19,8 @@ impl Tally {
             (_, Err(_)) => &mut self.refused,
             (Call::Store(_, _, _) | Call::Put(_, _), Ok(_)) => &mut self.put,
             (_, Ok(Answer::Found(Some(_)) | Answer::Got(Some(_)))) => &mut self.found,
-            (_, Ok(Answer::Found(None) | Answer::Got(None) | Answer::Deleted(false))) => &mut self.missing,
+            (_, Ok(Answer::Found(None) | Answer::Got(None) | Answer::Deleted(false))) =>
+                &mut self.missing,
             (_, Ok(Answer::Deleted(true))) => &mut self.deleted,
             (_, Ok(Answer::Done | Answer::Shown(_))) => return,
         };

@@ -1,21 +1,24 @@
 // What is told of calls and of pairs.
 use crate::work::{Item, Kind};
-use listing::text::{hex, quoted};
+use database::Position;
 use pages::{PAGE, Place, view};
 use records::{Member, Record, Sort, Symbol};
 use runs::kinds::{Either, Only};
 use runs::{Answer, Call, Outcome};
-use database::Position;
 use std::alloc::{AllocError, Global};
 
 // Tells of a call, unless it was accepted and shows nothing.
-pub fn tell(rt: &HostRuntime, call: &Call<Item, Kind>, outcome: &Outcome<Item>) -> anyhow::Result<()> {
+pub fn tell(
+    rt: &HostRuntime,
+    call: &Call<Item, Kind>,
+    outcome: &Outcome<Item>,
+) -> anyhow::Result<()> {
     let heap = rt.alloc();
     let call = call_text(heap, call)?;
     match &outcome.answer {
         Ok(Answer::Done | Answer::Shown(_)) => {}
         Ok(Answer::Found(Some(place))) => {
-            let value = hex(heap, view(&outcome.page, *place)?)?;
+            let value = hex::encode(heap, view(&outcome.page, *place)?)?;
             println!(rt; "  {call}: {value}")?;
         }
         Ok(Answer::Got(Some(item))) => {
@@ -39,13 +42,13 @@ pub fn pair_text(
 ) -> anyhow::Result<String> {
     let (number, after) = next;
     let pair = after.saturating_sub(1);
-    let key = quoted(heap, view(page, key)?)?;
+    let key = str::from_utf8(view(page, key)?)?;
     let value = value_text(heap, view(page, value)?)?;
-    Ok(format!(in heap; "page {number} pair {pair}: {key} = {value}")?)
+    Ok(format!(in heap; "page {number} pair {pair}: {key:?} = {value}")?)
 }
 
 // What was called, with which name.
-fn call_text(heap: Global, call: &Call<Item, Kind>) -> Result<String, AllocError> {
+fn call_text(heap: Global, call: &Call<Item, Kind>) -> anyhow::Result<String> {
     let (word, name) = match call {
         Call::Store(name, _, _) => ("store", *name),
         Call::Put(name, _) => ("put", *name),
@@ -53,11 +56,11 @@ fn call_text(heap: Global, call: &Call<Item, Kind>) -> Result<String, AllocError
         Call::Get(name, Either::First(())) => ("get symbol", *name),
         Call::Get(name, Either::Second(())) => ("get member", *name),
         Call::Delete(name) => ("delete", *name),
-        Call::Step(_) => return String::from_str(heap, "step"),
-        Call::Flush => return String::from_str(heap, "flush"),
+        Call::Step(_) => ("step", b"".as_slice()),
+        Call::Flush => ("flush", b"".as_slice()),
     };
-    let name = quoted(heap, name)?;
-    format!(in heap; "{word} {name}")
+    let name = str::from_utf8(name)?;
+    Ok(format!(in heap; "{word} {name:?}")?)
 }
 
 // A value as the record that it is the code of. The codes of the two kinds are of two lengths.
@@ -65,7 +68,7 @@ fn value_text(heap: Global, value: &[u8]) -> Result<String, AllocError> {
     match (Symbol::decode(value), Member::decode(value)) {
         (Some(symbol), _) => symbol_text(heap, symbol),
         (_, Some(member)) => member_text(heap, member),
-        _ => hex(heap, value),
+        _ => hex::encode(heap, value),
     }
 }
 

@@ -9,7 +9,6 @@ use runs::kinds::{Either, Only};
 use runs::{Answer, Call, run};
 use std::alloc::Global;
 
-
 // A record of the job, and which kind of record.
 pub type Item = Either<Only<Symbol>, Only<Member>>;
 

@@ -21,7 +21,7 @@ const RECORD: usize = 1030;
 // How many records the images have, and how many of them the linker may claim where there is a quota.
 const RECORDS: usize = 12;
 
-const CLAIMS: u32 = 3;
+const CLAIMS: u32 = 2;
 
 fn main(rt: HostRuntime) -> anyhow::Result<()> {
     let library = make_library(&rt)?;
@@ -96,8 +96,8 @@ fn read_program(rt: &HostRuntime, image: Vec<u8>) -> anyhow::Result<()> {
         Call::Get(b"exit", SYMBOL),
         Call::Get(b"main", MEMBER),
         Call::Fetch(b"heap_area"),
-        Call::Delete(b"uart_flush"),
-        Call::Get(b"uart_flush", SYMBOL),
+        Call::Delete(b"_ZN7drivers4uart5flushEv"),
+        Call::Get(b"_ZN7drivers4uart5flushEv", SYMBOL),
         Call::Flush,
     ];
     read(rt, image, &calls)

@@ -35,6 +35,13 @@ impl<D: Device> Cache<D> {
         }
     }
 
+    // The device below, again. What is still in the frames is lost: a flush brings it down.
+    pub fn into_below(self) -> D
+        ensures { result ≡ self.below }
+    {
+        self.below
+    }
+
     // Where the frame is that shows n. A number that is not held is shown by the device below.
     fn shown_by(&self, n: u32) -> Option<usize>
         ensures place { result ≡ visible (in_use self.now.queue) (D.Device.meaning self.now.below) n }

@@ -2,7 +2,8 @@
 use Rattle.std.proofs.Common.{◌≡◌, ℕ, suc, ◌+◌, ◌*◌, ◌/◌, ◌%◌, ◌^◌, ◌<◌, List, [], ◌∷◌, length, set, Ok, Err, Result, inl, inr, sym, ap, subst, ◌∙◌, ⊎_elim, add-one, one-mul, mod-eq_of_lt, get_or-set_same, get_or-set_other, arith}
 use lib.Pow.{pow-lt}
 use Rattle.contents.specs.Blocks.{Blocks}
-use Rattle.database.proofs.Marks.{bit_within, marked, put_here, put_other}
+use Rattle.calls.proofs.Marks.{bit_within, marked}
+use Rattle.splits.proofs.Splits.{put_here, put_other}
 use Rattle.calls.specs.Store.{Slots, slot, split_claims, split_write, split_writes, with_bit}
 use Rattle.devices.proofs.Traces.{last_call, trace_stop, trace_then}
 use Rattle.devices.specs.Step.{Call, claim, write}

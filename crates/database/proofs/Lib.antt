@@ -5,7 +5,6 @@ pub mod Steps
 pub mod Walks
 pub mod Unders
 pub mod Halves
-pub mod Marks
 pub mod Rooms
 pub mod Stored
 pub mod Deletes

@@ -86,12 +86,12 @@ module _ (block : List ℕ) (n : ℕ) (blank : block ≡ replicate n 0) where
 pub blank_page : (page : List ℕ) → page ≡ replicate 1024 0 → pairs_of page ≡ []
 blank_page page e = blank_pairs page 1024 e
 
-bits_blank : (blocks : Blocks) → ((n : ℕ) → blocks n ≡ replicate 1024 0) → (i : ℕ) → bits_in blocks i ≡ false
+pub bits_blank : (blocks : Blocks) → ((n : ℕ) → blocks n ≡ replicate 1024 0) → (i : ℕ) → bits_in blocks i ≡ false
 unfolding bits_in
 bits_blank blocks blank i =
     cond_both (ltb i 32767) (bits_of (blocks (i / 8192)) (i % 8192)) false (λ b. b ≡ false) (λ _. bit_clear (blocks (i / 8192)) 1024 (blank (i / 8192)) (i % 8192)) (λ _. refl)
 
-pages_blank : (blocks : Blocks) → ((n : ℕ) → blocks n ≡ replicate 1024 0) → (p : ℕ) → (contents_of blocks).pages p ≡ []
+pub pages_blank : (blocks : Blocks) → ((n : ℕ) → blocks n ≡ replicate 1024 0) → (p : ℕ) → (contents_of blocks).pages p ≡ []
 pages_blank blocks blank p =
     let page = page_in blocks p in
     contents_pages blocks p ∙ pairs_good page (blank_good page (blank (4 + p))) ∙ blank_page page (blank (4 + p))

@@ -1,7 +1,6 @@
 pub mod Rules
 pub mod Quiet
 pub mod Holds
-pub mod Marks
 pub mod Writes
 pub mod Homes
 pub mod Traces
@@ -9,3 +8,5 @@ pub mod Outcomes
 pub mod Deletes
 pub mod Flats
 pub mod Stores
+pub mod Clear
+pub mod Worked

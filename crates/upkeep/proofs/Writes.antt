@@ -16,7 +16,7 @@ use Rattle.splits.proofs.Splits.{put_here, put_other}
 use Rattle.splits.specs.Writes.{Write, all_made, made, to_bit, to_page}
 use Rattle.std.proofs.lemmas.Bool.{both_ways, cases_eq, cases_lt, cond_both}
 use Rattle.std.proofs.lemmas.List.{length-replicate}
-use Rattle.upkeep.proofs.Marks.{contents_marked, contents_written}
+use Rattle.calls.proofs.Marks.{contents_marked, contents_written}
 use Rattle.upkeep.proofs.Quiet.{Spared, block_spared, blocks_like, failed_spared, limit_spared, quiet_kept}
 
 -- the block that a write goes to, and its bytes

@@ -1,3 +1,4 @@
 pub mod Holding
 pub mod Refusals
 pub mod Laws
+pub mod Cases

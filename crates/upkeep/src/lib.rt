@@ -2,6 +2,7 @@
 #![tactic(auto)]
 
 ghost use Rattle.std.specs.Prelude.{Bool};
+ghost use Rattle.upkeep.specs.Cases.{StoreCases};
 ghost use Rattle.upkeep.specs.Laws.{AnsweredByRule, BlankHolds, DeleteKeeps, DeleteNever, FlushKeeps, HoldsExactly, ReadsKeep, StoreKeeps, StoreNever};
 
 // From a blank database on, on every device, whatever the answers are. There is nothing to run: the contract is the point.
@@ -15,4 +16,9 @@ pub fn upkeep_laws()
     ensures delete { DeleteKeeps }
     ensures store_never { StoreNever }
     ensures delete_never { DeleteNever }
+{}
+
+// Worked examples of a store. The format's others are the contract of page_edits::worked_cases.
+pub fn worked_stores()
+    ensures cases { StoreCases }
 {}

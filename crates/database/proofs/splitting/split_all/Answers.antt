@@ -1,6 +1,6 @@
 use Rattle.std.proofs.Common.{◌≡◌, ℕ, suc, ◌+◌, ◌-◌, ◌<◌, ◌/◌, List, set, length, Ok, Err, refl, sym, ap, subst, ◌∙◌, rules, arith, length-set}
 use Rattle.database.proofs.Halves.{slots_set, split_next, split_refused}
-use Rattle.database.proofs.Marks.{marked}
+use Rattle.calls.proofs.Marks.{marked}
 use Rattle.database.proofs.splitting.split_all.Goals as goal
 use Rattle.calls.specs.Store.{Slots, slot, split_write, split_writes, with_bit}
 use Rattle.devices.specs.Trace.{Did, Trace}

@@ -1,25 +1,25 @@
 -- What reads of a device find, and what they leave.
-use Rattle.std.proofs.Common.{◌≡◌, ℕ, ◌/◌, ◌<◌, cond, ltb, List, [], ◌∷◌, ◌++◌, replicate, Ok, Err, OnOk, Result, inl, inr, refl, sym, ap, subst, ◌∙◌, ⊎_elim, arith}
-use Rattle.contents.specs.Blocks.{blocks_of}
+use Rattle.std.proofs.Common.{◌≡◌, ℕ, ◌/◌, ◌<◌, cond, ltb, min, List, [], ◌∷◌, ◌++◌, replicate, Ok, Err, OnOk, Result, inl, inr, refl, sym, ap, subst, ◌∙◌, ⊎_elim, arith}
+use Rattle.contents.specs.Blocks.{block_count, blocks_of}
 use Rattle.devices.proofs.Traces.{trace_then, trace_stop}
 use Rattle.devices.specs.Meaning.{Meaning}
-use Rattle.devices.specs.Step.{Call, Filled, Kept, WasRead, read}
+use Rattle.devices.specs.Step.{Call, Filled, Kept, read}
 use Rattle.devices.specs.Trace.{Account, Did, Trace}
 use Rattle.faults.specs.declared.Fault.{Fault}
 use Rattle.lookup.specs.Reads.{another, blocks_of_bits, reads}
 use Rattle.std.specs.Result.{result_unwrap_or}
 use Rattle.std.proofs.lemmas.Bool.{cond-true, lt-ltb}
 
--- a device shows the block that it was asked for
-pub block_shown : (d : Meaning) (n : ℕ) → n < d.limit → blocks_of d n ≡ d.block n
+-- a device shows the block that it was asked for, where it is one of a database
+pub block_shown : (d : Meaning) (n : ℕ) → n < block_count → n < d.limit → blocks_of d n ≡ d.block n
 unfolding blocks_of
-block_shown d n l = cond-true (ltb n d.limit) (d.block n) (replicate 1024 0) (lt-ltb n d.limit l)
+block_shown d n own l = cond-true (ltb n (min d.limit block_count)) (d.block n) (replicate 1024 0) (lt-ltb n (min d.limit block_count) (omega (arith, own, l)))
 
 pub kept_blocks : (d e : Meaning) → Kept d e → blocks_of e ≡ blocks_of d
 unfolding blocks_of
 kept_blocks d e k =
-    ap {B = ℕ → List ℕ} (λ (l : ℕ). λ (n : ℕ). cond (ltb n l) (e.block n) (replicate 1024 0)) k.stays.limit
-    ∙ ap {B = ℕ → List ℕ} (λ (b : ℕ → List ℕ). λ (n : ℕ). cond (ltb n d.limit) (b n) (replicate 1024 0)) k.block
+    ap {B = ℕ → List ℕ} (λ (l : ℕ). λ (n : ℕ). cond (ltb n (min l block_count)) (e.block n) (replicate 1024 0)) k.stays.limit
+    ∙ ap {B = ℕ → List ℕ} (λ (b : ℕ → List ℕ). λ (n : ℕ). cond (ltb n (min d.limit block_count)) (b n) (replicate 1024 0)) k.block
 
 pub reads_append : (ns ms : List ℕ) → reads (ns ++ ms) ≡ reads ns ++ reads ms
 reads_append [] ms = refl
@@ -47,14 +47,10 @@ reads_keep {S} steps M (n ∷ ns) d e own (Err f) t =
     (λ (u : (m : S) × Did steps M d (read n 1024) (Ok tt) m × Trace (Did steps M) m (reads ns) own (Err f) e). reads_keep steps M ns u.0 e own (Err f) u.2 ∙ kept_blocks (M d) (M u.0) u.1.1.kept)
     t
 
--- the answer to a read that was accepted: the block that the device shows
-pub read_found : (d e : Meaning) (n : ℕ) (new : List ℕ) → WasRead d n 1024 e → new ≡ d.block n → new ≡ blocks_of d n
-read_found d e n new w is = is ∙ sym (block_shown d n w.range)
-
 -- what a read leaves in the buffer where it was accepted
-pub filled_shown : {S : Type 0} (steps : Account S) (M : S → Meaning) (d e : S) (n size : ℕ) (r : Result Unit Fault) (old new : List ℕ) → size ≡ 1024 → Did steps M d (read n size) r e → Filled (M d) n r old new → OnOk r (new ≡ blocks_of (M d) n)
-filled_shown steps M d e n size (Ok u) old new w did is = is ∙ sym (block_shown (M d) n did.1.range)
-filled_shown steps M d e n size (Err f) old new w did is = tt
+pub filled_shown : {S : Type 0} (steps : Account S) (M : S → Meaning) (d e : S) (n size : ℕ) (r : Result Unit Fault) (old new : List ℕ) → n < block_count → size ≡ 1024 → Did steps M d (read n size) r e → Filled (M d) n r old new → OnOk r (new ≡ blocks_of (M d) n)
+filled_shown steps M d e n size (Ok u) old new own w did is = is ∙ sym (block_shown (M d) n own did.1.range)
+filled_shown steps M d e n size (Err f) old new own w did is = tt
 
 -- another answer to calls that were all accepted
 pub answered : {S X Y : Type 0} (did : S → Call → Result Unit Fault → S → Type 0) (cs : List Call) (d e : S) (x y : X) (own r : Result Y Fault) → r ≡ own → Trace did d cs (Ok x) (Ok y) e → Trace did d cs own r e

@@ -82,7 +82,8 @@ fn turn_to<D: Device>(
     last: u32,
     block: &mut [u8; BLOCK],
 ) -> Result<(), Fault>
-    requires { block.old ≡ blocks_of (D.Device.meaning device.old) last }
+    requires range { n < 4 }
+    requires last { block.old ≡ blocks_of (D.Device.meaning device.old) last }
     ensures made { Made D.Device.steps D.Device.meaning device.old (λ blocks. reads (another last n)) (λ blocks. Ok tt) result device.new }
     ensures block { OnOk result (block.new ≡ blocks_of (D.Device.meaning device.old) n) }
 {

@@ -1,5 +1,5 @@
 -- What a delete leaves of the pairs held, whatever it is answered.
-use Rattle.std.proofs.Common.{◌≡◌, ℕ, ◌+◌, ◌<◌, ◌≤◌, ◌&&◌, Bool, true, false, not, cond, eqb, ltb, List, [], ◌∷◌, ◌++◌, length, replicate, take, Option, Some, None, is_some, Ok, Err, Result, inl, refl, sym, ap, ◌∙◌, subst, ⊎_elim, arith}
+use Rattle.std.proofs.Common.{◌≡◌, ℕ, ◌+◌, ◌<◌, ◌&&◌, Bool, true, false, not, cond, eqb, List, [], ◌∷◌, ◌++◌, length, take, Option, Some, None, is_some, Ok, Err, Result, inl, refl, sym, ap, ◌∙◌, subst, arith}
 use Rattle.calls.specs.Delete.{delete_calls, delete_write, deleted, has_key, home_depth, home_pairs}
 use Rattle.calls.specs.Fetch.{home_bytes, home_page}
 use Rattle.contents.proofs.Joins.{differ_filter}
@@ -7,15 +7,15 @@ use Rattle.contents.proofs.Tests.{good_yes}
 use Rattle.contents.specs.Blocks.{Blocks, blocks_of}
 use Rattle.contents.specs.Contents.{Contents, contents_of, held, home}
 use Rattle.contents.specs.Test.{is_good}
-use Rattle.devices.specs.Meaning.{Meaning, Zeroed}
+use Rattle.devices.specs.Meaning.{Meaning}
 use Rattle.devices.specs.Step.{Call, Step, fault, write}
 use Rattle.devices.specs.Trace.{Trace}
+use Rattle.directory.proofs.Lookups.{page_below}
 use Rattle.faults.specs.declared.Fault.{Fault}
 use Rattle.faults.specs.declared.Layer.TheVariants.{Database}
 use Rattle.faults.specs.declared.Refusal.TheVariants.{EmptyKey}
 use Rattle.keys.specs.Hash.{hash}
 use Rattle.keys.specs.Same.{same}
-use Rattle.lookup.proofs.Reading.{block_shown}
 use Rattle.lookup.specs.Pages.{bad_page}
 use Rattle.lookup.specs.Reads.{home_calls}
 use Rattle.page_edits.specs.Edit.{dropped}
@@ -27,7 +27,7 @@ use Rattle.splits.proofs.Sounds.{deletes_sound}
 use Rattle.splits.proofs.Stores.{deletes}
 use Rattle.splits.specs.Laws.{Sound}
 use Rattle.splits.specs.Writes.{all_made, deleting, depth_at, made, others, pairs_at}
-use Rattle.std.proofs.lemmas.Bool.{both_ways, cases_lt, cond-false, le-ltb, true_from_ne_false}
+use Rattle.std.proofs.lemmas.Bool.{both_ways, true_from_ne_false}
 use Rattle.upkeep.proofs.Holds.{blank_page, holding_quiet, holding_same, sane}
 use Rattle.upkeep.proofs.Homes.{depth_is, dropped_none, home_is, key_there, pairs_are}
 use Rattle.upkeep.proofs.Outcomes.{before, refused, written as after_writes}
@@ -35,15 +35,6 @@ use Rattle.upkeep.proofs.Quiet.{home_quiet, quiet_append, quiet_trace, spared}
 use Rattle.upkeep.proofs.Writes.{AllMay, Sane, number, write_calls, writes_leave}
 use Rattle.upkeep.specs.Holding.{Holding}
 use Rattle.upkeep.specs.Laws.{DeleteKeeps, DeleteNever, Never, deleted_pairs}
-
--- a block that is not held is blank
-unheld_blank : (d : Meaning) → Zeroed d → (n : ℕ) → d.held n ≡ false → blocks_of d n ≡ replicate 1024 0
-unfolding blocks_of
-unheld_blank d z n free =
-    ⊎_elim
-    (λ (l : n < d.limit). block_shown d n l ∙ z n l free)
-    (λ (l : d.limit ≤ n). cond-false (ltb n d.limit) (d.block n) (replicate 1024 0) (le-ltb n d.limit l))
-    (cases_lt n d.limit)
 
 not_some : (o : Option Pair) → is_some o ≡ false → o ≡ None
 not_some None e = refl
@@ -70,13 +61,13 @@ module _ (pairs : List Pair) (key : List ℕ) where
         true_from_ne_false (d.held (4 + home c key))
         (λ free.
         let unheld : d.held (4 + home_page (blocks_of d) key) ≡ false = ap (λ (p : ℕ). d.held (4 + p)) (sym (home_is (blocks_of d) key)) ∙ free in
-        let blank : home_pairs (blocks_of d) key ≡ [] = blank_page (home_bytes (blocks_of d) key) (unheld_blank d h.unclaimed (4 + home_page (blocks_of d) key) unheld) in
+        let blank : home_pairs (blocks_of d) key ≡ [] = blank_page (home_bytes (blocks_of d) key) (h.unclaimed (4 + home_page (blocks_of d) key) unheld) in
         let none : has_key (blocks_of d) key ≡ false = key_there (blocks_of d) key good ∙ ap (λ (ps : List Pair). is_some (look key ps)) (pairs_are (blocks_of d) key good ∙ blank) in
         both_ways (has_key (blocks_of d) key) none there)
 
     may : AllMay (deleting c key ∷ [])
     unfolding deleting
-    may = (fits_others (pairs_at c key) key (depth_at c key) (h.sound.fits (home c key)), tt)
+    may = ((page_below c.bits (hash key), fits_others (pairs_at c key) key (depth_at c key) (h.sound.fits (home c key))), tt)
 
     -- the write is that of the contents
     calls_are : delete_write (blocks_of d) key ∷ [] ≡ write_calls (blocks_of d) (deleting c key ∷ [])

@@ -1,11 +1,12 @@
 -- The calls of a store's splits as writes, one after another: which numbers they claim, and what they write.
-use Rattle.std.proofs.Common.{◌≡◌, ℕ, zero, suc, ◌+◌, ◌-◌, ◌*◌, ◌/◌, ◌^◌, ◌<◌, ◌≤◌, Bool, true, min, find, flat_map, map, List, [], ◌∷◌, ◌++◌, Option, Some, None, Ok, Err, Result, refl, sym, ap, ap₂, ◌∙◌, subst, ⊎_elim, add-zero, arith}
+use Rattle.std.proofs.Common.{◌≡◌, ℕ, zero, suc, ◌+◌, ◌-◌, ◌*◌, ◌/◌, ◌^◌, ◌<◌, ◌≤◌, Bool, true, min, find, flat_map, map, List, [], ◌∷◌, ◌++◌, Option, Some, None, Ok, Err, Result, refl, sym, ap, ap₂, ◌∙◌, subst, ⊎_elim, add-zero, pow-suc, pow_mono, arith}
 use Rattle.calls.specs.Store.{bits_clear, claims, split_claims, split_writes, with_bit}
 use Rattle.contents.specs.Blocks.{Blocks}
 use Rattle.devices.specs.Meaning.{Meaning, put}
 use Rattle.devices.specs.Step.{Call, Step, claim, fault, flush, read, write}
 use Rattle.devices.specs.Trace.{Trace}
 use Rattle.directory.proofs.Lookups.{node_lt}
+use Rattle.directory.proofs.Low.{low_lt}
 use Rattle.directory.specs.Tree.{NoneUnder, low, node}
 use Rattle.faults.specs.declared.Fault.{Fault}
 use Rattle.faults.specs.declared.Layer.TheVariants.{Database}
@@ -20,7 +21,7 @@ use Rattle.splits.specs.Writes.{splits, to_bit, to_page}
 use Rattle.std.proofs.lemmas.Bool.{cases_eq}
 use Rattle.std.specs.List.{range_with_len}
 use Rattle.upkeep.proofs.Quiet.{AllQuiet, claimed_held, quiet_trace}
-use Rattle.upkeep.proofs.Writes.{AllHeld, AllMay, after_write, write_calls}
+use Rattle.upkeep.proofs.Writes.{AllHeld, AllMay, May, after_write, write_calls}
 
 -- claims
 
@@ -95,12 +96,19 @@ module _ (pairs : List Pair) (h : ℕ) where
       (same_bit t a b (omega arith) same)
       (flat s (suc t) p ps (put a (node h t / 8192) (with_bit (a (node h t / 8192)) (node h t))) (third t a b (omega arith) same) (omega arith) (same_third t a b (omega arith) same))
 
+  -- the two pages of a split are of the database
+  lower_page : (t : ℕ) → t < 15 → low h t < 32768
+  lower_page t l = let m = pow_mono {j = 15} l in omega (arith, low_lt h t)
+
+  upper_page : (t : ℕ) → t < 15 → low h t + 2 ^ t < 32768
+  upper_page t l = let m = pow_mono {i = suc t} {j = 15} l in omega (arith, low_lt h t, pow-suc 2 t)
+
   -- the writes may be made
-  pub splits_may : Fits pairs → (s t p : ℕ) (ps : List Pair) → Fits ps → t + s ≤ 15 → AllMay (splits pairs h t s ++ to_page p ps ∷ [])
+  pub splits_may : Fits pairs → (s t p : ℕ) (ps : List Pair) → May (to_page p ps) → t + s ≤ 15 → AllMay (splits pairs h t s ++ to_page p ps ∷ [])
   splits_may fits zero t p ps f l = (f, tt)
   splits_may fits (suc s) t p ps f l = (
-    fits_falling (suc t) (low h t + 2 ^ t) pairs fits,
-    (node_lt h t (omega arith), (fits_falling (suc t) (low h t) pairs fits, splits_may fits s (suc t) p ps f (omega arith))),
+    (upper_page t (omega arith), fits_falling (suc t) (low h t + 2 ^ t) pairs fits),
+    (node_lt h t (omega arith), ((lower_page t (omega arith), fits_falling (suc t) (low h t) pairs fits), splits_may fits s (suc t) p ps f (omega arith))),
   )
 
   -- and they are to numbers that were claimed

@@ -10,7 +10,6 @@ use Rattle.contents.specs.Contents.{Contents, contents_of, held, home}
 use Rattle.devices.specs.Meaning.{Meaning}
 use Rattle.directory.specs.Tree.{bit, bits_of}
 use Rattle.keys.proofs.Sames.{laws}
-use Rattle.lookup.proofs.Reading.{block_shown}
 use Rattle.lookup.specs.Reads.{reads}
 use Rattle.pages.proofs.Pages.{blank_good}
 use Rattle.pages.specs.Page.{Good, Pair, look, pair_of, pairs, pairs_of}
@@ -28,7 +27,7 @@ use Rattle.upkeep.specs.Laws.{BlankHolds, FlushKeeps, HoldsExactly, ReadsKeep}
 pub holding_quiet : (pairs : List Pair) (d e : Meaning) → Holding pairs d → Quiet d e → Holding pairs e
 holding_quiet pairs d e h q = record {
   device = q.lawful h.device;
-  unclaimed = q.zeroed h.unclaimed;
+  unclaimed = q.unclaimed h.unclaimed;
   sound = subst (λ (b : Blocks). Sound (contents_of b)) (sym q.blocks) h.sound;
   good = subst (λ (b : Blocks). (p : ℕ) → Good (page_in b p)) (sym q.blocks) h.good;
   held = subst (λ (b : Blocks). (key : List ℕ) → held (contents_of b) key ≡ look key pairs) (sym q.blocks) h.held;
@@ -101,7 +100,7 @@ blank_holds d lawful blank =
     let c = contents_of (blocks_of d) in
     record {
       device = lawful;
-      unclaimed = λ n l _. sym (block_shown d n l) ∙ blank n;
+      unclaimed = λ n _. blank n;
       sound = blank_sound c (record {
         clear = λ i. ap (λ (bits : ℕ → Bool). bits i) (contents_bits (blocks_of d)) ∙ bits_blank (blocks_of d) blank i;
         empty = pages_blank (blocks_of d) blank;

@@ -1,8 +1,8 @@
 -- Calls that write nothing: what they leave, and how they are not refused.
-use Rattle.std.proofs.Common.{◌≡◌, ◌⊎◌, ℕ, ◌+◌, ◌<◌, ◌≤◌, Bool, true, false, eqb, List, [], ◌∷◌, ◌++◌, length, replicate, cond, ltb, Ok, Err, Result, inl, inr, refl, sym, ap, ◌∙◌, subst, ⊎_elim, arith}
+use Rattle.std.proofs.Common.{◌≡◌, ◌⊎◌, ℕ, ◌+◌, ◌<◌, ◌≤◌, Bool, true, false, eqb, List, [], ◌∷◌, ◌++◌, length, replicate, cond, ltb, min, Ok, Err, Result, inl, inr, refl, sym, ap, ◌∙◌, subst, ⊎_elim, arith}
 use Rattle.std.proofs.Math.Path.{fun_ext}
-use Rattle.contents.specs.Blocks.{Blocks, bits_in, blocks_of}
-use Rattle.devices.specs.Meaning.{Meaning, Zeroed, Sound as Lawful}
+use Rattle.contents.specs.Blocks.{Blocks, bits_in, block_count, blocks_of}
+use Rattle.devices.specs.Meaning.{Meaning, Sound as Lawful}
 use Rattle.devices.specs.Step.{Call, Claimed, Failed, Kept, Step, claim, flush, read, write}
 use Rattle.devices.specs.Trace.{Trace}
 use Rattle.directory.specs.Tree.{page_of}
@@ -13,23 +13,24 @@ use Rattle.faults.specs.declared.Refusal.TheVariants.{DeviceFailed, NoClaim, Not
 use Rattle.lookup.specs.Reads.{home_calls, lookup_calls, lookup_reads, reads}
 use Rattle.splits.proofs.Splits.{put_here, put_other}
 use Rattle.std.proofs.lemmas.Bool.{both_ways, cases_Bool, cases_eq, cases_lt, cond_both, false_from_ne_true}
+use Rattle.upkeep.specs.Holding.{Unclaimed}
 use Rattle.upkeep.specs.Laws.{Never}
 
 -- the blocks are as they were, and no number that was held was let go
 pub record Quiet (d e : Meaning) : Type 0 where
   pub blocks : blocks_of e ≡ blocks_of d
   pub lawful : Lawful d → Lawful e
-  pub zeroed : Zeroed d → Zeroed e
+  pub unclaimed : Unclaimed d → Unclaimed e
   pub held : (n : ℕ) → d.held n ≡ true → e.held n ≡ true
 
 pub quiet_same : (d : Meaning) → Quiet d d
-quiet_same d = record { blocks = refl; lawful = λ l. l; zeroed = λ z. z; held = λ n h. h }
+quiet_same d = record { blocks = refl; lawful = λ l. l; unclaimed = λ u. u; held = λ n h. h }
 
 pub quiet_then : (d m e : Meaning) → Quiet d m → Quiet m e → Quiet d e
 quiet_then d m e a b = record {
   blocks = b.blocks ∙ a.blocks;
   lawful = λ l. b.lawful (a.lawful l);
-  zeroed = λ z. b.zeroed (a.zeroed z);
+  unclaimed = λ u. b.unclaimed (a.unclaimed u);
   held = λ n h. b.held n (a.held n h);
 }
 
@@ -37,7 +38,7 @@ quiet_then d m e a b = record {
 pub blocks_like : (d e : Meaning) → e.limit ≡ d.limit → (k : ℕ) → e.block k ≡ d.block k → blocks_of e k ≡ blocks_of d k
 unfolding blocks_of
 blocks_like d e limit k same =
-    ap (λ (l : ℕ). cond (ltb k l) (e.block k) (replicate 1024 0)) limit ∙ ap (λ (b : List ℕ). cond (ltb k d.limit) b (replicate 1024 0)) same
+    ap (λ (l : ℕ). cond (ltb k (min l block_count)) (e.block k) (replicate 1024 0)) limit ∙ ap (λ (b : List ℕ). cond (ltb k (min d.limit block_count)) b (replicate 1024 0)) same
 
 -- nothing but held numbers was changed, and they are below the limit
 module _ (d e : Meaning) (limit : e.limit ≡ d.limit) (block : e.block ≡ d.block) where
@@ -50,9 +51,9 @@ module _ (d e : Meaning) (limit : e.limit ≡ d.limit) (block : e.block ≡ d.bl
       whole = λ n k. ap (λ (b : ℕ → List ℕ). length (b n)) block ∙ l.whole n (omega (arith, limit));
       spent = λ n. ap (λ (s : ℕ → Fault). (s n).refusal) spent ∙ l.spent n;
     };
-    zeroed = λ z n k h.
-        ap (λ (b : ℕ → List ℕ). b n) block
-        ∙ z n (omega (arith, limit)) (false_from_ne_true (d.held n) (λ t. both_ways (e.held n) h (more n t)));
+    unclaimed = λ u n h.
+        blocks_like d e limit n (ap (λ (b : ℕ → List ℕ). b n) block)
+        ∙ u n (false_from_ne_true (d.held n) (λ t. both_ways (e.held n) h (more n t)));
     held = more;
   }
 

@@ -1,5 +1,5 @@
 -- What a store leaves of the pairs held, whatever it is answered.
-use Rattle.std.proofs.Common.{◌≡◌, ℕ, zero, suc, ◌+◌, ◌/◌, ◌<◌, ◌≤◌, Bool, true, false, not, cond, eqb, leb, List, [], ◌∷◌, ◌++◌, length, take, Contains, Option, Some, None, Ok, Err, Result, inl, inr, refl, sym, ap, ◌∙◌, subst, take_all, arith}
+use Rattle.std.proofs.Common.{◌≡◌, ℕ, zero, suc, ◌+◌, ◌/◌, ◌<◌, ◌≤◌, Bool, true, false, not, cond, eqb, leb, List, [], ◌∷◌, ◌++◌, length, take, Contains, Option, Some, None, Ok, Err, Result, inl, inr, refl, sym, ap, ◌∙◌, subst, take_all, pow_mono, arith}
 use Rattle.calls.specs.Delete.{has_key, home_depth, home_pairs}
 use Rattle.calls.specs.Fetch.{home_bytes, home_page}
 use Rattle.calls.specs.Store.{bits_clear, bits_under, change_calls, claims, inserts, last_write, planned, split_writes, store_calls, stored, under_calls, up_to}
@@ -15,6 +15,7 @@ use Rattle.devices.specs.Meaning.{Meaning}
 use Rattle.devices.specs.Step.{Call, Step, fault}
 use Rattle.devices.specs.Trace.{Trace}
 use Rattle.directory.proofs.Lookups.{depth_limit}
+use Rattle.directory.proofs.Low.{low_lt}
 use Rattle.directory.specs.Tree.{depth_of, low, node}
 use Rattle.faults.specs.declared.Fault.{Fault}
 use Rattle.faults.specs.declared.Layer.TheVariants.{Database}
@@ -109,7 +110,10 @@ module _ (pairs : List Pair) (key value : List ℕ) where
 
     may : AllMay ws
     unfolding storing
-    may = splits_may (pairs_at c key) (hash key) (h.sound.fits (home c key)) s t (low (hash key) (t + s)) (with_pair (others (pairs_at c key) key (t + s)) key value) fits limit
+    may =
+        let m = pow_mono {j = 15} limit in
+        splits_may (pairs_at c key) (hash key) (h.sound.fits (home c key)) s t (low (hash key) (t + s)) (with_pair (others (pairs_at c key) key (t + s)) key value)
+        (omega (arith, low_lt (hash key) (t + s)), fits) limit
 
     to_held : AllClaimed d.held (claims (hash key) deep s) → AllHeld d.held ws
     unfolding storing

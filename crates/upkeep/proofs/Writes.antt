@@ -1,10 +1,10 @@
 -- Writes as calls on a device, and what each front of a list of them leaves.
-use Rattle.std.proofs.Common.{◌≡◌, ℕ, suc, ◌+◌, ◌/◌, ◌<◌, ◌≤◌, Bool, true, false, eqb, ltb, ltb-true, List, [], ◌∷◌, length, take, replicate, Ok, Err, Result, refl, sym, ap, ◌∙◌, subst, ⊎_elim, arith}
+use Rattle.std.proofs.Common.{◌≡◌, ℕ, suc, ◌+◌, ◌/◌, ◌<◌, ◌≤◌, Bool, true, false, eqb, ltb, ltb-true, min, List, [], ◌∷◌, length, take, replicate, Ok, Err, Result, refl, sym, ap, ◌∙◌, subst, ⊎_elim, arith}
 use Rattle.std.proofs.Math.Path.{fun_ext}
 use Rattle.calls.specs.Store.{with_bit}
-use Rattle.contents.specs.Blocks.{Blocks, blocks_of, page_in}
+use Rattle.contents.specs.Blocks.{Blocks, block_count, blocks_of, page_in}
 use Rattle.contents.specs.Contents.{contents_of}
-use Rattle.devices.specs.Meaning.{Meaning, Zeroed, put, Sound as Lawful}
+use Rattle.devices.specs.Meaning.{Meaning, put, Sound as Lawful}
 use Rattle.devices.specs.Step.{Call, Kept, NotWritten, Step, Wrote, write}
 use Rattle.devices.specs.Trace.{Trace}
 use Rattle.faults.specs.declared.Fault.{Fault}
@@ -18,6 +18,7 @@ use Rattle.std.proofs.lemmas.Bool.{both_ways, cases_eq, cases_lt, cond_both}
 use Rattle.std.proofs.lemmas.List.{length-replicate}
 use Rattle.calls.proofs.Marks.{contents_marked, contents_written}
 use Rattle.upkeep.proofs.Quiet.{Spared, block_spared, blocks_like, failed_spared, limit_spared, quiet_kept}
+use Rattle.upkeep.specs.Holding.{Unclaimed}
 
 -- the block that a write goes to, and its bytes
 abbrev pub number : Write → ℕ
@@ -35,10 +36,15 @@ abbrev pub write_calls : Blocks → List Write → List Call
 write_calls blocks [] = []
 write_calls blocks (w ∷ ws) = write (number w) (bytes blocks w) ∷ write_calls (after_write blocks w) ws
 
--- pairs that are written fit, and a bit that is set counts
+-- the page is one of a database, and its pairs fit; a bit that is set counts
 abbrev pub May : Write → Type 0
-May (to_page p ps) = Fits ps
+May (to_page p ps) = (p < 32768) × Fits ps
 May (to_bit i) = i < 32767
+
+-- it goes to a block of the database
+own : (w : Write) → May w → number w < block_count
+own (to_page p ps) may = omega (arith, may.0)
+own (to_bit i) may = omega (arith, may)
 
 abbrev pub AllMay : List Write → Type 0
 AllMay [] = Unit
@@ -55,37 +61,37 @@ Accepted w d e = Wrote d (number w) (bytes (blocks_of d) w) e
 -- what holds of a database's device during writes too
 pub record Sane (d : Meaning) : Type 0 where
   pub device : Lawful d
-  pub unclaimed : Zeroed d
+  pub unclaimed : Unclaimed d
   pub good : (p : ℕ) → Good (page_in (blocks_of d) p)
 
 whole_blocks : (d : Meaning) → Lawful d → (n : ℕ) → length (blocks_of d n) ≡ 1024
 unfolding blocks_of
 whole_blocks d l n =
-    cond_both (ltb n d.limit) (d.block n) (replicate 1024 0) (λ b. length b ≡ 1024) (λ t. l.whole n (omega (arith, ltb-true n d.limit t))) (λ _. length-replicate {A = ℕ} 1024 0)
+    cond_both (ltb n (min d.limit block_count)) (d.block n) (replicate 1024 0) (λ b. length b ≡ 1024) (λ t. l.whole n (omega (arith, ltb-true n (min d.limit block_count) t))) (λ _. length-replicate {A = ℕ} 1024 0)
 
 -- one write that was accepted
 
 module _ (blocks : Blocks) where
   contents_after : (w : Write) → May w → ((n : ℕ) → length (blocks n) ≡ 1024) → contents_of (after_write blocks w) ≡ made w (contents_of blocks)
-  contents_after (to_page p ps) fits whole = contents_written blocks p ps fits
+  contents_after (to_page p ps) may whole = contents_written blocks p ps may.1
   contents_after (to_bit i) range whole = contents_marked blocks i range (whole (i / 8192))
 
   good_after : (w : Write) → May w → ((p : ℕ) → Good (page_in blocks p)) → (p : ℕ) → Good (page_in (after_write blocks w) p)
-  good_after (to_page q ps) fits good p =
+  good_after (to_page q ps) may good p =
       ⊎_elim
-      (λ (e : 4 + p ≡ 4 + q). subst Good (sym (put_here blocks (4 + q) (written ps) (4 + p) e)) (reads_back ps fits).0)
+      (λ (e : 4 + p ≡ 4 + q). subst Good (sym (put_here blocks (4 + q) (written ps) (4 + p) e)) (reads_back ps may.1).0)
       (λ (n : 4 + p ≡ 4 + q → ⊥). subst Good (sym (put_other blocks (4 + q) (written ps) (4 + p) n)) (good p))
       (cases_eq (4 + p) (4 + q))
   good_after (to_bit i) range good p =
       subst Good (sym (put_other blocks (i / 8192) (with_bit (blocks (i / 8192)) i) (4 + p) (λ e. omega arith))) (good p)
 
 module _ (d e : Meaning) (n : ℕ) (new : List ℕ) (w : Wrote d n new e) where
-  wrote_blocks : blocks_of e ≡ put (blocks_of d) n new
-  wrote_blocks = fun_ext (λ k. ⊎_elim (here k) (other k) (cases_eq k n))
+  wrote_blocks : n < block_count → blocks_of e ≡ put (blocks_of d) n new
+  wrote_blocks own = fun_ext (λ k. ⊎_elim (here k) (other k) (cases_eq k n))
     where
       here : (k : ℕ) → k ≡ n → blocks_of e k ≡ put (blocks_of d) n new k
       here k q =
-          block_shown e k (omega (arith, w.range, w.stays.limit))
+          block_shown e k (omega (arith, own)) (omega (arith, w.range, w.stays.limit))
           ∙ ap (λ (b : ℕ → List ℕ). b k) w.block
           ∙ put_here d.block n new k q
           ∙ sym (put_here (blocks_of d) n new k q)
@@ -104,18 +110,18 @@ module _ (d e : Meaning) (n : ℕ) (new : List ℕ) (w : Wrote d n new e) where
     spent = λ k. ap (λ (s : ℕ → Fault). (s k).refusal) w.stays.spent ∙ l.spent k;
   }
 
-  wrote_zeroed : Zeroed d → Zeroed e
-  wrote_zeroed z k l h =
+  wrote_unclaimed : n < block_count → Unclaimed d → Unclaimed e
+  wrote_unclaimed own u k h =
       let free : d.held k ≡ false = sym (ap (λ (f : ℕ → Bool). f k) w.held) ∙ h in
-      ap (λ (b : ℕ → List ℕ). b k) w.block
-      ∙ put_other d.block n new k (λ q. both_ways (d.held k) free (ap d.held q ∙ w.was_held))
-      ∙ z k (omega (arith, w.stays.limit)) free
+      ap (λ (b : Blocks). b k) (wrote_blocks own)
+      ∙ put_other (blocks_of d) n new k (λ q. both_ways (d.held k) free (ap d.held q ∙ w.was_held))
+      ∙ u k free
 
 wrote_sane : (d e : Meaning) (w : Write) → Sane d → May w → Accepted w d e → Sane e
 wrote_sane d e w s may x = record {
   device = wrote_lawful d e (number w) (bytes (blocks_of d) w) x s.device;
-  unclaimed = wrote_zeroed d e (number w) (bytes (blocks_of d) w) x s.unclaimed;
-  good = subst (λ (b : Blocks). (p : ℕ) → Good (page_in b p)) (sym (wrote_blocks d e (number w) (bytes (blocks_of d) w) x)) (good_after (blocks_of d) w may s.good);
+  unclaimed = wrote_unclaimed d e (number w) (bytes (blocks_of d) w) x (own w may) s.unclaimed;
+  good = subst (λ (b : Blocks). (p : ℕ) → Good (page_in b p)) (sym (wrote_blocks d e (number w) (bytes (blocks_of d) w) x (own w may))) (good_after (blocks_of d) w may s.good);
 }
 
 -- one that was refused, of a number that is held
@@ -132,7 +138,7 @@ sane_kept d e k s =
     let q = quiet_kept d e k in
     record {
       device = q.lawful s.device;
-      unclaimed = q.zeroed s.unclaimed;
+      unclaimed = q.unclaimed s.unclaimed;
       good = subst (λ (b : Blocks). (p : ℕ) → Good (page_in b p)) (sym q.blocks) s.good;
     }
 
@@ -169,7 +175,7 @@ left_more {X} w ws d m e r s may x left = record {
   many = suc left.many;
   contents = left.contents
       ∙ ap (all_made (take left.many ws))
-      (ap contents_of (wrote_blocks d m (number w) (bytes (blocks_of d) w) x) ∙ contents_after (blocks_of d) w may (whole_blocks d s.device));
+      (ap contents_of (wrote_blocks d m (number w) (bytes (blocks_of d) w) x (own w may)) ∙ contents_after (blocks_of d) w may (whole_blocks d s.device));
   cut = more r left.cut;
 }
   where
@@ -183,7 +189,7 @@ after_one : {X : Type 0} (w : Write) (ws : List Write) (d m e : Meaning) (x : X)
     → (Sane m → Trace Step m (write_calls (blocks_of m) ws) (Ok x) r e → Left ws m r e)
     → Left (w ∷ ws) d r e
 after_one w ws d m e x r may s wrote t go =
-    let blocks = wrote_blocks d m (number w) (bytes (blocks_of d) w) wrote in
+    let blocks = wrote_blocks d m (number w) (bytes (blocks_of d) w) wrote (own w may) in
     left_more w ws d m e r s may wrote (go (wrote_sane d m w s may wrote) (subst (λ (b : Blocks). Trace Step m (write_calls b ws) (Ok x) r e) (sym blocks) t))
 
 still_held : (w : Write) (ws : List Write) (d m : Meaning) → AllHeld d.held ws → Accepted w d m → AllHeld m.held ws

@@ -1,16 +1,19 @@
 -- A device on which a database that was blank once holds these pairs.
-use Rattle.std.specs.Prelude.{◌≡◌, ℕ, List, replicate}
+use Rattle.std.specs.Prelude.{◌≡◌, ℕ, false, List, replicate}
 use Rattle.contents.specs.Blocks.{Blocks, blocks_of, page_in}
 use Rattle.contents.specs.Contents.{contents_of, held}
 use Rattle.contents.specs.Laws.{Differ}
-use Rattle.devices.specs.Meaning.{Meaning, Zeroed, Sound as Lawful}
+use Rattle.devices.specs.Meaning.{Meaning, Sound as Lawful}
 use Rattle.pages.specs.Page.{Good, Pair, look}
 use Rattle.splits.specs.Laws.{Sound}
 
+-- a number that was never claimed still has its blank block
+abbrev pub Unclaimed : Meaning → Type 0
+Unclaimed d = (n : ℕ) → d.held n ≡ false → blocks_of d n ≡ replicate 1024 0
+
 pub record Holding (pairs : List Pair) (d : Meaning) : Type 0 where
   pub device : Lawful d
-  -- a number that was never claimed still has its blank block
-  pub unclaimed : Zeroed d
+  pub unclaimed : Unclaimed d
   pub sound : Sound (contents_of (blocks_of d))
   pub good : (p : ℕ) → Good (page_in (blocks_of d) p)
   pub held : (key : List ℕ) → held (contents_of (blocks_of d)) key ≡ look key pairs

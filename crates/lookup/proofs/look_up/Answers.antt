@@ -33,7 +33,7 @@ loop-i-init g c =
     let depth = c.new-way.ensures.1 in
     record {
       same = kept_blocks (M d) (M c.read.new.self) c.in_ok-read.ensures.step.1.kept;
-      block = filled_shown steps M d c.read.new.self 0 _ (Ok tt) c.args.block.now c.read.new.into c.told-block c.in_ok-read.ensures.step c.in_ok-read.ensures.into;
+      block = filled_shown steps M d c.read.new.self 0 _ (Ok tt) c.args.block.now c.read.new.into (omega arith) c.told-block c.in_ok-read.ensures.step c.in_ok-read.ensures.into;
       hash = c.new-way.ensures.0;
       above = λ s l. absurd (omega (arith, depth));
       rest = λ r e t.

@@ -1,5 +1,5 @@
-use Rattle.std.proofs.Common.{◌≡◌, ℕ, ◌+◌, [], ◌∷◌, ◌++◌, Ok, Err, Result, sym, ap, subst, ◌∙◌, rules, arith}
-use Rattle.contents.specs.Blocks.{Blocks, bits_in, blocks_of}
+use Rattle.std.proofs.Common.{◌≡◌, ℕ, ◌+◌, ◌<◌, [], ◌∷◌, ◌++◌, Ok, Err, Result, sym, ap, subst, ◌∙◌, rules, arith}
+use Rattle.contents.specs.Blocks.{Blocks, bits_in, block_count, blocks_of}
 use Rattle.devices.proofs.Traces.{trace_stop}
 use Rattle.devices.specs.Trace.{Did, Trace}
 use Rattle.directory.proofs.Lookups.{page_below}
@@ -75,6 +75,7 @@ returns-clause-page g c =
     let blocks = blocks_of (M d) in
     let h = c.args.hash in
     let leaf = answer_is (own_answer (Did steps M) (lookup_calls blocks h) d m _ _ c.in_ok-leaf.ensures.made) in
-    filled_shown steps M m c.read.new.self (4 + c.in_ok-leaf.leaf.page) _ (Ok tt) c.look_up.new.block c.read.new.into c.look_up.array_long c.in_ok-read.ensures.step c.in_ok-read.ensures.into
+    let own : 4 + c.in_ok-leaf.leaf.page < block_count = omega (arith, ap (λ (l : Leaf). l.page) leaf, page_below (bits_in blocks) h) in
+    filled_shown steps M m c.read.new.self (4 + c.in_ok-leaf.leaf.page) _ (Ok tt) c.look_up.new.block c.read.new.into own c.look_up.array_long c.in_ok-read.ensures.step c.in_ok-read.ensures.into
     ∙ ap (λ (b : Blocks). b (4 + c.in_ok-leaf.leaf.page)) (reads_keep steps M (lookup_reads (bits_in blocks) h) d m _ _ c.in_ok-leaf.ensures.made)
     ∙ ap (λ (l : Leaf). blocks (4 + l.page)) leaf

@@ -1,6 +1,6 @@
 -- What a store knows of its directory slots, and of the bits that it tests under those it would set.
 use Rattle.std.proofs.Common.{◌≡◌, ℕ, suc, ◌+◌, ◌-◌, ◌*◌, ◌/◌, ◌<◌, ◌≤◌, min, Bool, true, false, cond, ◌||◌, List, [], ◌∷◌, ◌++◌, map, length, set, get_or-set_same, get_or-set_other, Some, None, Ok, Err, OnOk, Option, Result, refl, sym, ap, subst, ◌∙◌, ⊎_elim, append_assoc, arith}
-use Rattle.contents.specs.Blocks.{Blocks, bits_in, blocks_of}
+use Rattle.contents.specs.Blocks.{Blocks, bits_in, block_count, blocks_of}
 use Rattle.calls.specs.Store.{Slots, bits_under, clear_pair, slot, up_to}
 use Rattle.devices.proofs.Traces.{trace_stop, trace_then}
 use Rattle.devices.specs.Meaning.{Meaning}
@@ -19,9 +19,9 @@ use Rattle.std.proofs.lemmas.List.{set-get_or}
 use Rattle.std.specs.List.{find, flat_map, range_with_len}
 
 -- a block that was read into its slot, and the other slots
-module _ {S : Type 0} (steps : Account S) (M : S → Meaning) (d e : S) (n size : ℕ) (directory : List (List ℕ)) (new : List ℕ) (inside : n < length directory) where
+module _ {S : Type 0} (steps : Account S) (M : S → Meaning) (d e : S) (n size : ℕ) (directory : List (List ℕ)) (new : List ℕ) (inside : n < length directory) (own : n < block_count) where
   pub slot_read : (r : Result Unit Fault) → Did steps M d (read n size) r e → Filled (M d) n r (slot directory n) new → OnOk r (Slots (blocks_of (M d)) (set directory n new) n)
-  slot_read (Ok u) did is = get_or-set_same directory n new [] inside ∙ is ∙ sym (block_shown (M d) n did.1.range)
+  slot_read (Ok u) did is = get_or-set_same directory n new [] inside ∙ is ∙ sym (block_shown (M d) n own did.1.range)
   slot_read (Err f) did is = tt
 
   pub slots_kept : (r : Result Unit Fault) → Did steps M d (read n size) r e → Filled (M d) n r (slot directory n) new

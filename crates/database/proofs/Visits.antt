@@ -1,5 +1,5 @@
 -- What a visit of a page calls, answers and leaves.
-use Rattle.std.proofs.Common.{◌≡◌, ℕ, ◌+◌, Bool, true, false, eqb, ◌==◌, List, [], ◌∷◌, ◌++◌, Option, None, Ok, Err, Result, inr, refl, sym, ap, ◌∙◌, subst}
+use Rattle.std.proofs.Common.{◌≡◌, ℕ, ◌+◌, ◌<◌, Bool, true, false, eqb, ◌==◌, List, [], ◌∷◌, ◌++◌, Option, None, Ok, Err, Result, inr, refl, sym, ap, ◌∙◌, subst, arith}
 use mathlib.Core.Path.{fun_ext}
 use Rattle.contents.specs.Blocks.{Blocks, bits_in, blocks_of, page_in}
 use Rattle.contents.specs.Test.{is_good}
@@ -88,7 +88,7 @@ module _ {S X Y : Type 0} (steps : Account S) (M : S → Meaning) (cs : List Cal
 
 -- after an accepted lookup, the page that was read is the one that the blocks had at its entry
 pub read_page : {S X : Type 0} (steps : Account S) (M : S → Meaning) (p : ℕ) (d m e : S) (own r : Result X Fault) → Trace (Did steps M) d (lookup_calls (blocks_of (M d)) p) own r m
-    → (size : ℕ) (old new : List ℕ) → size ≡ 1024 → Did steps M m (read (4 + p) size) (Ok tt) e → Filled (M m) (4 + p) (Ok tt) old new → new ≡ page_in (blocks_of (M d)) p
-read_page steps M p d m e own r t size old new whole s filled =
-    filled_shown steps M m e (4 + p) size (Ok tt) old new whole s filled
+    → p < 32768 → (size : ℕ) (old new : List ℕ) → size ≡ 1024 → Did steps M m (read (4 + p) size) (Ok tt) e → Filled (M m) (4 + p) (Ok tt) old new → new ≡ page_in (blocks_of (M d)) p
+read_page steps M p d m e own r t below size old new whole s filled =
+    filled_shown steps M m e (4 + p) size (Ok tt) old new (omega (arith, below)) whole s filled
     ∙ ap (λ (b : Blocks). b (4 + p)) (reads_keep steps M (lookup_reads (bits_in (blocks_of (M d))) p) d m own r t)

@@ -1,6 +1,6 @@
 -- The blocks of an image on a flat device.
 use Rattle.std.proofs.Common.{◌≡◌, ℕ, ◌+◌, ◌-◌, ◌*◌, ◌/◌, ◌%◌, ◌<◌, ◌≤◌, false, ltb, List, length, replicate, take, drop, slice_index, sym, ap, ◌∙◌, ⊎_elim, arith, ◌==◌}
-use Rattle.contents.specs.Blocks.{bits_in, blocks_of, page_in}
+use Rattle.contents.specs.Blocks.{bits_in, block_count, blocks_of, page_in}
 use Rattle.directory.specs.Tree.{bit, bits_of}
 use Rattle.flat.specs.Blocks.{block_at, blocks, flat}
 use Rattle.image.specs.Files.{Has, filled, joined, page_at}
@@ -36,8 +36,8 @@ module _ (dir : List ℕ) where
     unfolding blocks
     past p lacks = ⊎_elim (λ (h : length pag < 1024 * p + 1024). omega (arith, image_length)) (λ (h : 1024 * p + 1024 ≤ length pag). absurd (lacks h)) (cases_lt (length pag) (1024 * p + 1024))
 
-    shown : (n : ℕ) → n < blocks image → blocks_of (flat image) n ≡ block_at image n
-    shown n l = block_shown (flat image) n l
+    shown : (n : ℕ) → n < block_count → n < blocks image → blocks_of (flat image) n ≡ block_at image n
+    shown n own l = block_shown (flat image) n own l
 
     inside : (p : ℕ) → p < 32768 → Has pag p → 4 + p < blocks image
     unfolding blocks
@@ -46,7 +46,7 @@ module _ (dir : List ℕ) where
     pub page : (p : ℕ) → p < 32768 → Has pag p → page_in (blocks_of (flat image)) p ≡ page_at pag p
     page p l h =
         let e : 1024 * (4 + p) ≡ length (filled dir) + 1024 * p = omega (arith, filled_length) in
-        shown (4 + p) (inside p l h) ∙ ap (take 1024) (ap (λ (i : ℕ). drop i image) e ∙ drop-append-add (filled dir) pag (1024 * p))
+        shown (4 + p) (omega arith) (inside p l h) ∙ ap (take 1024) (ap (λ (i : ℕ). drop i image) e ∙ drop-append-add (filled dir) pag (1024 * p))
 
     directory_inside : (n : ℕ) → n < 4 → n < blocks image
     unfolding blocks
@@ -55,7 +55,7 @@ module _ (dir : List ℕ) where
     -- byte j of directory block n
     block_byte : (n j : ℕ) → n < 4 → j < 1024 → slice_index (blocks_of (flat image) n) j ≡ slice_index dir (1024 * n + j)
     block_byte n j l m =
-        ap (λ (s : List ℕ). slice_index s j) (shown n (directory_inside n l))
+        ap (λ (s : List ℕ). slice_index s j) (shown n (omega arith) (directory_inside n l))
         ∙ get_or-take 1024 (drop (1024 * n) image) j 0 m
         ∙ get_or-drop (1024 * n) image j 0
         ∙ get_or_append_left (filled dir) pag 0 (1024 * n + j) (omega (arith, filled_length))

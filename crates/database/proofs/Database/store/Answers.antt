@@ -89,7 +89,7 @@ module _ {S : Type 0} (steps : Account S) (M : S → Meaning) (d m e : S) (h : �
 
   page_read : (size : ℕ) (old new : List ℕ) → size ≡ 1024 → Did steps M m (read (4 + leaf.page) size) (Ok tt) e → Filled (M m) (4 + leaf.page) (Ok tt) old new → new ≡ home_bytes blocks key
   page_read size old new whole s is =
-      filled_shown steps M m e (4 + leaf.page) size (Ok tt) old new whole s is
+      filled_shown steps M m e (4 + leaf.page) size (Ok tt) old new (omega (arith, at, page_below (bits_in blocks) (hash key))) whole s is
       ∙ ap (λ (b : Blocks). b (4 + leaf.page)) (reads_keep steps M (lookup_reads (bits_in blocks) (hash key)) d m _ _ made)
       ∙ ap blocks at
 

@@ -80,7 +80,7 @@ returns-in_err-page-clause-made g c =
     let own = visited blocks p c.args.number in
     let leaf = answer_is (own_answer did (lookup_calls blocks p) d m _ _ c.in_ok-leaf.ensures.made) in
     let here = at_page blocks p c.in_ok-leaf.leaf leaf c.if-leaf-p.false in
-    let bytes = read_page steps M p d m e _ _ c.in_ok-leaf.ensures.made _ c.args.block.now c.read.new.into c.told-block c.in_ok-read.ensures.step c.in_ok-read.ensures.into in
+    let bytes = read_page steps M p d m e _ _ c.in_ok-leaf.ensures.made c.requires _ c.args.block.now c.read.new.into c.told-block c.in_ok-read.ensures.step c.in_ok-read.ensures.into in
     let bad = here_bad blocks p here c.args.number (ap is_good (sym bytes) ∙ c.in_err-page.ensures.0) in
     let f = c.in_err-page.field-0.0 in
     let is : c.from_residual-in_err-page.result ≡ Err f = search rules in
@@ -102,7 +102,7 @@ returns-clause-made g c =
     let leaf = answer_is (own_answer did (lookup_calls blocks p) d m _ _ c.in_ok-leaf.ensures.made) in
     let at = c.if-leaf-p.false in
     let here = at_page blocks p c.in_ok-leaf.leaf leaf at in
-    let bytes = read_page steps M p d m e _ _ c.in_ok-leaf.ensures.made _ c.args.block.now c.read.new.into c.told-block c.in_ok-read.ensures.step c.in_ok-read.ensures.into in
+    let bytes = read_page steps M p d m e _ _ c.in_ok-leaf.ensures.made c.requires _ c.args.block.now c.read.new.into c.told-block c.in_ok-read.ensures.step c.in_ok-read.ensures.into in
     let page = c.in_ok-page.ensures.1 ∙ bytes in
     let good = here_good blocks p here n (ap is_good (sym bytes) ∙ c.in_ok-page.ensures.0) in
     let first =
@@ -123,5 +123,5 @@ returns-clause-page g c =
     let p = c.args.p in
     let leaf = answer_is (own_answer did (lookup_calls blocks p) d m _ _ c.in_ok-leaf.ensures.made) in
     let here = at_page blocks p c.in_ok-leaf.leaf leaf c.if-leaf-p.false in
-    read_page steps M p d m c.read.new.self _ _ c.in_ok-leaf.ensures.made _ c.args.block.now c.read.new.into c.told-block c.in_ok-read.ensures.step c.in_ok-read.ensures.into
+    read_page steps M p d m c.read.new.self _ _ c.in_ok-leaf.ensures.made c.requires _ c.args.block.now c.read.new.into c.told-block c.in_ok-read.ensures.step c.in_ok-read.ensures.into
     ∙ sym (here_page blocks p here c.args.block.now)

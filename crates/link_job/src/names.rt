@@ -1,7 +1,6 @@
 // The names of the job: members of a library and symbols of a program, each with its record.
-use crate::work::{Item, Kind};
+use crate::ask::Ask;
 use records::{Member, Sort, Symbol};
-use runs::Call;
 use runs::kinds::{Either, Only};
 use std::alloc::{AllocError, Global};
 
@@ -77,8 +76,8 @@ const SYMBOLS: [(&str, u16, u32); 40] = [
 ];
 
 // A put of each member.
-pub fn member_puts(heap: Global) -> Result<Vec<Call<'static, Item, Kind>>, AllocError> {
-    let mut calls = Vec::new(heap);
+pub fn member_puts(heap: Global) -> Result<Vec<Ask<'static>>, AllocError> {
+    let mut puts = Vec::new(heap);
     let mut offset = FIRST_MEMBER;
     for (name, length, sort) in MEMBERS {
         let member = Member {
@@ -86,22 +85,22 @@ pub fn member_puts(heap: Global) -> Result<Vec<Call<'static, Item, Kind>>, Alloc
             length,
             sort,
         };
-        calls.push(Call::Put(name.as_bytes(), Either::Second(Only(member))))?;
+        puts.push(Ask::Put(name.as_bytes(), Either::Second(Only(member))))?;
         offset = offset.saturating_add(length);
     }
-    Ok(calls)
+    Ok(puts)
 }
 
 // A put of each symbol.
-pub fn symbol_puts(heap: Global) -> Result<Vec<Call<'static, Item, Kind>>, AllocError> {
-    let mut calls = Vec::new(heap);
+pub fn symbol_puts(heap: Global) -> Result<Vec<Ask<'static>>, AllocError> {
+    let mut puts = Vec::new(heap);
     for (name, section, address) in SYMBOLS {
         let symbol = Symbol {
             address,
             section,
             addend: 0,
         };
-        calls.push(Call::Put(name.as_bytes(), Either::First(Only(symbol))))?;
+        puts.push(Ask::Put(name.as_bytes(), Either::First(Only(symbol))))?;
     }
-    Ok(calls)
+    Ok(puts)
 }

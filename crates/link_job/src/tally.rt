@@ -1,6 +1,8 @@
 // How many calls went which way.
+use crate::ask::Ask;
+use crate::work::Item;
 use faults::Fault;
-use runs::{Answer, Call};
+use runs::Answer;
 use std::fmt;
 
 #[derive(Clone, Copy, Default)]
@@ -13,11 +15,11 @@ pub struct Tally {
 }
 
 impl Tally {
-    // Counts a call by its answer. A flush that is accepted is none of these.
-    pub fn count<K, Kind>(&mut self, call: &Call<K, Kind>, answer: &Result<Answer<K>, Fault>) {
-        let counter = match (call, answer) {
+    // Counts what was asked by its answer. A flush that is accepted is none of these.
+    pub fn count(&mut self, ask: &Ask, answer: &Result<Answer<Item>, Fault>) {
+        let counter = match (ask, answer) {
             (_, Err(_)) => &mut self.refused,
-            (Call::Store(_, _, _) | Call::Put(_, _), Ok(_)) => &mut self.put,
+            (Ask::Put(_, _), Ok(_)) => &mut self.put,
             (_, Ok(Answer::Found(Some(_)) | Answer::Got(Some(_)))) => &mut self.found,
             (_, Ok(Answer::Found(None) | Answer::Got(None) | Answer::Deleted(false))) =>
                 &mut self.missing,

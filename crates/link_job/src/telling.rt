@@ -1,41 +1,47 @@
 // What is told of calls and of pairs.
-use crate::work::{Item, Kind};
+use crate::ask::Ask;
+use crate::work::Item;
+use anyhow::bail;
 use database::Position;
-use pages::{PAGE, Place, view};
+use pages::{Place, view};
 use records::{Member, Record, Sort, Symbol};
 use runs::kinds::{Either, Only};
-use runs::{Answer, Call, Outcome};
+use runs::{Answer, Outcome};
 use std::alloc::{AllocError, Global};
 
-// Tells of a call, unless it was accepted and shows nothing.
-pub fn tell(
-    rt: &HostRuntime,
-    call: &Call<Item, Kind>,
-    outcome: &Outcome<Item>,
-) -> anyhow::Result<()> {
+// Tells what was answered, unless it was accepted and shows nothing.
+pub fn tell(rt: &HostRuntime, ask: &Ask, outcome: &Outcome<Item>) -> anyhow::Result<()> {
     let heap = rt.alloc();
-    let call = call_text(heap, call)?;
+    let asked = ask_text(heap, ask)?;
     match &outcome.answer {
         Ok(Answer::Done | Answer::Shown(_)) => {}
         Ok(Answer::Found(Some(place))) => {
-            let value = hex::encode(heap, view(&outcome.page, *place)?)?;
-            println!(rt; "  {call}: {value}")?;
+            let value = hex::encode(heap, view(shown_page(outcome)?, *place)?)?;
+            println!(rt; "  {asked}: {value}")?;
         }
         Ok(Answer::Got(Some(item))) => {
             let record = item_text(heap, item)?;
-            println!(rt; "  {call}: {record}")?;
+            println!(rt; "  {asked}: {record}")?;
         }
-        Ok(Answer::Deleted(true)) => println!(rt; "  {call}: deleted")?,
-        Ok(_) => println!(rt; "  {call}: not there")?,
-        Err(fault) => println!(rt; "  {call}: {fault}")?,
+        Ok(Answer::Deleted(true)) => println!(rt; "  {asked}: deleted")?,
+        Ok(_) => println!(rt; "  {asked}: not there")?,
+        Err(fault) => println!(rt; "  {asked}: {fault}")?,
     }
     Ok(())
+}
+
+// The page buffer of a call that came with one.
+pub fn shown_page(outcome: &Outcome<Item>) -> anyhow::Result<&[u8]> {
+    let Some(page) = &outcome.page else {
+        bail!("a page buffer was not handed out");
+    };
+    Ok(page.as_slice())
 }
 
 // A pair, by its page, its number there and the places of its key and its value.
 pub fn pair_text(
     heap: Global,
-    page: &[u8; PAGE],
+    page: &[u8],
     key: Place,
     value: Place,
     next: Position,
@@ -47,17 +53,15 @@ pub fn pair_text(
     Ok(format!(in heap; "page {number} pair {pair}: {key:?} = {value}")?)
 }
 
-// What was called, with which name.
-fn call_text(heap: Global, call: &Call<Item, Kind>) -> anyhow::Result<String> {
-    let (word, name) = match call {
-        Call::Store(name, _, _) => ("store", *name),
-        Call::Put(name, _) => ("put", *name),
-        Call::Fetch(name) => ("fetch", *name),
-        Call::Get(name, Either::First(())) => ("get symbol", *name),
-        Call::Get(name, Either::Second(())) => ("get member", *name),
-        Call::Delete(name) => ("delete", *name),
-        Call::Step(_) => ("step", b"".as_slice()),
-        Call::Flush => ("flush", b"".as_slice()),
+// What was asked, with which name.
+fn ask_text(heap: Global, ask: &Ask) -> anyhow::Result<String> {
+    let (word, name) = match ask {
+        Ask::Put(name, _) => ("put", *name),
+        Ask::Fetch(name) => ("fetch", *name),
+        Ask::Get(name, Either::First(())) => ("get symbol", *name),
+        Ask::Get(name, Either::Second(())) => ("get member", *name),
+        Ask::Delete(name) => ("delete", *name),
+        Ask::Flush => ("flush", b"".as_slice()),
     };
     let name = str::from_utf8(name)?;
     Ok(format!(in heap; "{word} {name:?}")?)

@@ -1,8 +1,8 @@
 -- A walk in a run shows the pairs that the database holds.
-use Rattle.std.proofs.Common.{◌≡◌, ℕ, List, [], ◌∷◌, ◌-◌, Option, Ok, Err, Result, refl, sym, ap, ◌∙◌, subst, ⊎_elim}
+use Rattle.std.proofs.Common.{◌≡◌, ℕ, List, [], ◌∷◌, length, ◌-◌, ◌==◌, Option, Ok, Err, Result, refl, sym, ap, ◌∙◌, subst, ⊎_elim}
 use Rattle.calls.specs.Fetch.{BufferHas}
 use Rattle.calls.specs.Shown.{ShowsNext}
-use Rattle.calls.specs.Step.{step_calls, step_page, stepped}
+use Rattle.calls.specs.Step.{page_from, step_calls, step_from, step_page, stepped}
 use Rattle.calls.specs.declared.Stepped.{Stepped}
 use Rattle.calls.specs.declared.Stepped.TheVariants.{End, Pair as PairShown}
 use Rattle.contents.proofs.Held.{pages_tidy}
@@ -13,18 +13,23 @@ use Rattle.contents.specs.Laws.{Walk}
 use Rattle.database.proofs.Walks.{step_shows}
 use Rattle.devices.proofs.Traces.{trace_meaning}
 use Rattle.devices.specs.Meaning.{Meaning}
+use Rattle.devices.specs.Step.{fault}
 use Rattle.devices.specs.Trace.{Account, Did, Trace}
 use Rattle.faults.specs.declared.Fault.{Fault}
+use Rattle.faults.specs.declared.Layer.TheVariants.{Database}
+use Rattle.faults.specs.declared.Refusal.TheVariants.{NotABlock}
 use Rattle.lookup.proofs.Reading.{own_answer}
 use Rattle.pages.specs.Page.{Pair}
+use Rattle.runs.proofs.Made.{bytes_left}
 use Rattle.runs.proofs.Quieted.{fetch_quiet, step_quiet}
 use Rattle.runs.specs.Law.{SamePairs, StepShows, Walked}
-use Rattle.runs.specs.Performed.{Performed, Ran, answer_of, blank, calls_of, told_as}
+use Rattle.runs.specs.Performed.{Performed, Ran, answer_of, bytes_in, calls_of, told_as}
 use Rattle.runs.specs.declared.Answer.{Answer}
 use Rattle.runs.specs.declared.Answer.TheVariants.{Shown}
 use Rattle.runs.specs.declared.Call.{Call}
 use Rattle.runs.specs.declared.Call.TheVariants.{Delete, Fetch, Flush, Get, Put, Step, Store}
 use Rattle.runs.specs.declared.Outcome.{Outcome}
+use Rattle.std.proofs.lemmas.Bool.{cond_both}
 use Rattle.std.specs.Bool.{⊤}
 use Rattle.upkeep.proofs.Holds.{holds_exactly}
 use Rattle.upkeep.proofs.Quiet.{AllQuiet, quiet_trace}
@@ -47,9 +52,13 @@ walk_on c at rest (Ok (Shown (PairShown s))) page (pair ∷ shown) first later w
 walk_on c at rest (Ok (Shown End)) page [] first later w = first
 walk_on c at rest r page shown first later w = absurd w
 
-stepped_shows : (blocks : Blocks) (at : Position) → ShowsNext (contents_of blocks) at (stepped blocks at 1024) (step_page blocks at blank)
+stepped_shows : (blocks : Blocks) (at : Position) (size : ℕ) (old : List ℕ) → ShowsNext (contents_of blocks) at (stepped blocks at size) (step_page blocks at old)
 unfolding stepped step_page
-stepped_shows blocks at = step_shows blocks (32768 - at.0) at.0 at.1 blank refl
+stepped_shows blocks at size old =
+    cond_both (size == 1024) (step_from blocks (32768 - at.0) at.0 at.1) (Err (fault NotABlock Database 0))
+    (λ (r : Result Stepped Fault). ShowsNext (contents_of blocks) at r (page_from blocks (32768 - at.0) at.0 at.1 old))
+    (λ _. step_shows blocks (32768 - at.0) at.0 at.1 old refl)
+    (λ _. tt)
 
 module _ {S K Kind : Type 0} (steps : Account S) (M : S → Meaning) (code : K → List ℕ) (decoded : Kind → List ℕ → Option K) where
   abbrev blocks_at : S → Blocks
@@ -62,41 +71,42 @@ module _ {S K Kind : Type 0} (steps : Account S) (M : S → Meaning) (code : K �
       let own = answer_of code decoded c (blocks_at d) in
       (quiet_trace calls (M d) (M m) own o.answer quiet (trace_meaning steps M calls d m own o.answer p.0)).blocks
 
-  step_answers : (blocks : Blocks) (at : Position) (r : Result (Answer K) Fault) (page : List ℕ) (d m : S)
-      → Trace (Did steps M) d (step_calls blocks at 1024) (told_as (λ s. Shown s) (stepped blocks at 1024)) r m
-      → BufferHas r (step_page blocks at blank) blank page
+  step_answers : (blocks : Blocks) (at : Position) (size : ℕ) (old : List ℕ) (r : Result (Answer K) Fault) (page : List ℕ) (d m : S)
+      → Trace (Did steps M) d (step_calls blocks at size) (told_as (λ s. Shown s) (stepped blocks at size)) r m
+      → BufferHas r (step_page blocks at old) old page
       → AnswerShows (contents_of blocks) at r page
-  step_answers blocks at (Ok x) page d m made has =
+  step_answers blocks at size old (Ok x) page d m made has =
       let c = contents_of blocks in
-      let own : Result (Answer K) Fault = told_as (λ s. Shown s) (stepped blocks at 1024) in
-      let is = own_answer (Did steps M) (step_calls blocks at 1024) d m x own made in
+      let own : Result (Answer K) Fault = told_as (λ s. Shown s) (stepped blocks at size) in
+      let is = own_answer (Did steps M) (step_calls blocks at size) d m x own made in
       subst (AnswerShows c at (Ok x)) (sym has)
-      (subst (λ (r : Result (Answer K) Fault). AnswerShows c at r (step_page blocks at blank)) (sym is)
-      (told_shows K c at (stepped blocks at 1024) (step_page blocks at blank) (stepped_shows blocks at)))
-  step_answers blocks at (Err f) page d m made has = tt
+      (subst (λ (r : Result (Answer K) Fault). AnswerShows c at r (step_page blocks at old)) (sym is)
+      (told_shows K c at (stepped blocks at size) (step_page blocks at old) (stepped_shows blocks at size old)))
+  step_answers blocks at size old (Err f) page d m made has = tt
 
   -- what a run shows of a walk is a walk of the contents
   walks : (cs : List (Call K Kind)) (os : List (Outcome K)) (d e : S) (at : Position) (shown : List Pair)
       → Ran steps M code decoded cs os d e → Walked cs os at shown → Walk (contents_of (blocks_at d)) at shown
   walks [] os d e at shown ran w = absurd w
   walks (c ∷ cs) [] d e at shown ran w = absurd w
-  walks (Step p ∷ cs) (o ∷ os) d e at shown ran w =
+  walks (Step p page ∷ cs) (o ∷ os) d e at shown ran w =
       let blocks = blocks_at d in
       let c = contents_of blocks in
-      let same = stays (Step p) o d ran.0 (step_quiet blocks p 1024) ran.1 in
+      let same = stays (Step p page) o d ran.0 (step_quiet blocks p (length page.items)) ran.1 in
       let later : (next : Position) (more : List Pair) → Walked cs os next more → Walk c next more
       = λ next more v. subst (λ (b : Blocks). Walk (contents_of b) next more) same (walks cs os ran.0 e next more ran.2 v) in
       ⊎_elim
-      (λ (here : (p ≡ at) × StepShows (λ next more. Walked cs os next more) o.answer o.page shown).
+      (λ (here : (p ≡ at) × StepShows (λ next more. Walked cs os next more) o.answer (bytes_in o.page) shown).
       subst (λ (q : Position). Walk c q shown) here.0
-      (walk_on c p (λ next more. Walked cs os next more) o.answer o.page shown (step_answers blocks p o.answer o.page d ran.0 ran.1.0 ran.1.1) later here.1))
+      (walk_on c p (λ next more. Walked cs os next more) o.answer (bytes_in o.page) shown
+      (step_answers blocks p (length page.items) page.items o.answer (bytes_in o.page) d ran.0 ran.1.0 (bytes_left o.page (BufferHas o.answer (step_page blocks p page.items) page.items) ran.1.1)) later here.1))
       (λ past. later at shown past)
       w
-  walks (Fetch key ∷ cs) (o ∷ os) d e at shown ran w =
-      subst (λ (b : Blocks). Walk (contents_of b) at shown) (stays (Fetch key) o d ran.0 (fetch_quiet (blocks_at d) key.now 1024) ran.1)
+  walks (Fetch key page ∷ cs) (o ∷ os) d e at shown ran w =
+      subst (λ (b : Blocks). Walk (contents_of b) at shown) (stays (Fetch key page) o d ran.0 (fetch_quiet (blocks_at d) key.now (length page.items)) ran.1)
       (walks cs os ran.0 e at shown ran.2 w)
-  walks (Get key kind ∷ cs) (o ∷ os) d e at shown ran w =
-      subst (λ (b : Blocks). Walk (contents_of b) at shown) (stays (Get key kind) o d ran.0 (fetch_quiet (blocks_at d) key.now 1024) ran.1)
+  walks (Get key kind page ∷ cs) (o ∷ os) d e at shown ran w =
+      subst (λ (b : Blocks). Walk (contents_of b) at shown) (stays (Get key kind page) o d ran.0 (fetch_quiet (blocks_at d) key.now (length page.items)) ran.1)
       (walks cs os ran.0 e at shown ran.2 w)
   walks (Flush ∷ cs) (o ∷ os) d e at shown ran w =
       subst (λ (b : Blocks). Walk (contents_of b) at shown) (stays Flush o d ran.0 (tt, tt) ran.1) (walks cs os ran.0 e at shown ran.2 w)

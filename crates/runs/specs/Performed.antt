@@ -1,5 +1,5 @@
 -- What each call of a list asks of the device, answers, and leaves in its page buffer.
-use Rattle.std.specs.Prelude.{◌≡◌, ℕ, List, [], ◌∷◌, replicate, Ok, Err, Option, Result}
+use Rattle.std.specs.Prelude.{◌≡◌, ℕ, List, [], ◌∷◌, length, IsSomeAnd, Some, None, Ok, Err, Option, Result, Vec}
 use Rattle.calls.specs.Delete.{delete_calls, deleted}
 use Rattle.calls.specs.Fetch.{BufferHas, fetch_calls, fetched, got, home_bytes}
 use Rattle.calls.specs.Step.{step_calls, step_page, stepped}
@@ -16,39 +16,42 @@ use Rattle.runs.specs.declared.Answer.TheVariants.{Deleted, Done, Found, Got, Sh
 use Rattle.runs.specs.declared.Call.{Call}
 use Rattle.runs.specs.declared.Call.TheVariants.{Delete, Fetch, Flush, Get, Put, Step, Store}
 use Rattle.runs.specs.declared.Outcome.{Outcome}
+use Rattle.std.specs.declared.alloc.Global.{Global}
 
 -- an accepted answer as one of a list
 abbrev pub told_as : {X A : Type 0} → (X → A) → Result X Fault → Result A Fault
 told_as h (Ok x) = Ok (h x)
 told_as h (Err f) = Err f
 
--- a page buffer before its call
-abbrev pub blank : List ℕ
-blank = replicate 1024 0
-
 abbrev pub calls_of : {K Kind : Type 0} → (K → List ℕ) → Call K Kind → Blocks → List Asked
 calls_of code (Store key value mode) blocks = store_calls blocks key.now value.now mode
 calls_of code (Put key x) blocks = store_calls blocks key.now (code x) Replace
-calls_of code (Fetch key) blocks = fetch_calls blocks key.now 1024
-calls_of code (Get key kind) blocks = fetch_calls blocks key.now 1024
+calls_of code (Fetch key page) blocks = fetch_calls blocks key.now (length page.items)
+calls_of code (Get key kind page) blocks = fetch_calls blocks key.now (length page.items)
 calls_of code (Delete key) blocks = delete_calls blocks key.now
-calls_of code (Step at) blocks = step_calls blocks at 1024
+calls_of code (Step at page) blocks = step_calls blocks at (length page.items)
 calls_of code Flush blocks = flush ∷ []
 
 abbrev pub answer_of : {K Kind : Type 0} → (K → List ℕ) → (Kind → List ℕ → Option K) → Call K Kind → Blocks → Result (Answer K) Fault
 answer_of code decoded (Store key value mode) blocks = told_as (λ _. Done) (stored blocks key.now value.now mode)
 answer_of code decoded (Put key x) blocks = told_as (λ _. Done) (stored blocks key.now (code x) Replace)
-answer_of code decoded (Fetch key) blocks = told_as (λ place. Found place) (fetched blocks key.now 1024)
-answer_of code decoded (Get key kind) blocks = told_as (λ x. Got x) (got (decoded kind) blocks key.now 1024)
+answer_of code decoded (Fetch key page) blocks = told_as (λ place. Found place) (fetched blocks key.now (length page.items))
+answer_of code decoded (Get key kind page) blocks = told_as (λ x. Got x) (got (decoded kind) blocks key.now (length page.items))
 answer_of code decoded (Delete key) blocks = told_as (λ there. Deleted there) (deleted blocks key.now)
-answer_of code decoded (Step at) blocks = told_as (λ s. Shown s) (stepped blocks at 1024)
+answer_of code decoded (Step at page) blocks = told_as (λ s. Shown s) (stepped blocks at (length page.items))
 answer_of code decoded Flush blocks = Ok Done
 
-abbrev pub PageAfter : {K Kind : Type 0} → Call K Kind → Blocks → Result (Answer K) Fault → List ℕ → Type 0
-PageAfter (Fetch key) blocks r page = BufferHas r (home_bytes blocks key.now) blank page
-PageAfter (Get key kind) blocks r page = BufferHas r (home_bytes blocks key.now) blank page
-PageAfter (Step at) blocks r page = BufferHas r (step_page blocks at blank) blank page
-PageAfter c blocks r page = page ≡ blank
+-- the page buffer that a call came with is handed out, as the call left it
+abbrev pub PageAfter : {K Kind : Type 0} → Call K Kind → Blocks → Result (Answer K) Fault → Option (Vec ℕ Global) → Type 0
+PageAfter (Fetch key page) blocks r after = IsSomeAnd after (λ left. BufferHas r (home_bytes blocks key.now) page.items left.items)
+PageAfter (Get key kind page) blocks r after = IsSomeAnd after (λ left. BufferHas r (home_bytes blocks key.now) page.items left.items)
+PageAfter (Step at page) blocks r after = IsSomeAnd after (λ left. BufferHas r (step_page blocks at page.items) page.items left.items)
+PageAfter c blocks r after = after ≡ None
+
+-- the bytes in it; none where there is no buffer
+abbrev pub bytes_in : Option (Vec ℕ Global) → List ℕ
+bytes_in None = []
+bytes_in (Some page) = page.items
 
 -- a call was made of the database on state d of its device, which is in state e afterwards
 abbrev pub Performed : {S K Kind : Type 0} → Account S → (S → Meaning) → (K → List ℕ) → (Kind → List ℕ → Option K) → Call K Kind → Outcome K → S → S → Type 0

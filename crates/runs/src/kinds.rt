@@ -17,7 +17,7 @@ use records::Record;
 // Records of several kinds: each is put as one of its own kind, and a value is read as the kind that is asked for.
 pub trait Kinds: Sized {
     // which kind
-    type Kind;
+    type Kind: Drop;
 
     // the bytes of a record
     ghost code: { Self → List ℕ };

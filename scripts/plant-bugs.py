@@ -224,13 +224,13 @@ def check(folder, crate):
         return 'logic=not-proved\nno answer in 900 s\n'
 
 
-GONE = re.compile(r'has no `([\w-]+)` that can be named from here(?: \(did you mean `([\w-]+)`)?')
+GONE = re.compile(r'has no `([\w+-]+)` that can be named from here(?: \(did you mean `([\w+-]+)`)?')
 UNFIT = re.compile(r'that can be named from here|has no field|is not in scope|was not admitted')
 FALSE = re.compile(r'^note: \S+: it is not proved .*is false.*$', re.M)
 OPEN = re.compile(r'^note: \S+: it is not proved .*$', re.M)
 ERROR = re.compile(r'^\S+: error\b.*$', re.M)
 DIFFER = re.compile(r'(?:first differ|differ only) where one has `([^`]*)`.*?the other has `([^`]*)`', re.S)
-STEP = re.compile(r'\.before\b|\bLts\b|(?<![\w-])[cw]\.')
+STEP = re.compile(r'\.before\b|\bLts\b')
 
 
 def verdict(said):

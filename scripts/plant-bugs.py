@@ -1,0 +1,325 @@
+#!/usr/bin/env python3
+"""Plants bugs in a crate's code, one at a time, and says what the prover makes of each.
+
+    scripts/plant-bugs.py CRATE START COUNT [--only WORD] [--scratch FOLDER] [--list]
+
+Run it at the top of the repository, where CRATE is proved. It works on a copy, picks COUNT of the edits of function bodies
+that it knows by random numbers from START, and runs `rt check` after each. The same START and COUNT give the same edits.
+
+    refused    the edited code is not proved: a fact fails, or a promise is left open
+    unfit      a proof file does not fit the edited code: it names a step that is gone, or answers a goal that is not there
+    invalid    it does not compile
+    accepted   it is proved: an equivalent program, or a contract that is too weak
+
+Where a proof file names a step that only got another name from the edit, the name is changed in the copy and the check made again,
+so that fewer edits are unfit; `(renamed)` marks those.
+
+--only WORD     the edits of lines and functions with this word alone
+--scratch FOLDER keeps the copy and the logs there; a later run takes the verdict of an edit from its log
+--list          prints the edits and checks none
+"""
+import argparse
+import hashlib
+import pathlib
+import random
+import re
+import shutil
+import subprocess
+import sys
+import tempfile
+
+SWAPS = {
+    '<': ['<='], '<=': ['<'], '>': ['>='], '>=': ['>'], '==': ['!='], '!=': ['=='], '&&': ['||'], '||': ['&&'],
+    '+': ['-'], '-': ['+'], '+=': ['-='], '-=': ['+='], '*': ['+'], '/': ['*'], '%': ['/'],
+}
+OPERATOR = re.compile(r'(?<= )(?:' + '|'.join(re.escape(o) for o in sorted(SWAPS, key=len, reverse=True)) + r')(?= )')
+NUMBER = re.compile(r'(?<![\w.<#])\d[\d_]*(?![\w.])|(?<![\w.<#])\d[\d_]*(?=\.\.)|(?<=\.\.)\d[\d_]*')
+CONSTANT = re.compile(r'(?<!; )(?<!::)\b[A-Z][A-Z0-9_]+\b(?!::|\()')
+
+
+def blanked(text):
+    """The text, of the same length, without comments, ghost lines and what stands in quotes."""
+    skip = re.compile(r'//[^\n]*|^ *ghost\b[^\n]*|b?"(?:\\.|[^"\\])*"', re.M)
+    return skip.sub(lambda m: re.sub(r'[^\n]', ' ', m.group()), text)
+
+
+def closing(text, at):
+    """Where the bracket at `at` is closed."""
+    depth = 0
+    for i in range(at, len(text)):
+        depth += text[i] in '([{'
+        depth -= text[i] in ')]}'
+        if depth == 0:
+            return i
+    raise ValueError('a bracket is never closed')
+
+
+def functions(text):
+    """(name, head, start, end) of each function with a body: its clauses belong to neither."""
+    for m in re.finditer(r'\bfn (\w+)', text):
+        at = m.end()
+        head_end = None
+        while text[at] != ';':
+            if text[at] in '([':
+                at = closing(text, at)
+            elif text[at] == '{':
+                end = closing(text, at)
+                head_end = head_end or at
+                if not re.search(r'\b(requires|ensures)(\s+\w+)?\s*$', text[m.end():at]):
+                    yield m.group(1), text[m.end():head_end], at, end + 1
+                    break
+                at = end
+            at += 1
+
+
+def groups(text, start, end):
+    """The parts of each list in brackets, as (start, end) of each."""
+    for i in range(start, end):
+        if text[i] not in '([':
+            continue
+        close, parts, at = closing(text, i), [], i + 1
+        j = at
+        while j < close:
+            if text[j] in '([{':
+                j = closing(text, j)
+            elif text[j] == ',':
+                parts.append((at, j))
+                at = j + 1
+            j += 1
+        parts.append((at, close))
+        yield [(a + len(text[a:b]) - len(text[a:b].lstrip()), b) for a, b in parts if text[a:b].strip()]
+
+
+def statements(text, start, end):
+    """The statements of a body, as (start, end) of their lines, block by block. The layout tells them apart."""
+    lines, at = [], start
+    for line in text[start:end].splitlines(keepends=True):
+        lines.append((at, at + len(line), len(line) - len(line.lstrip(' ')), line.strip()))
+        at += len(line)
+    blocks = {}
+    for k, (a, b, indent, said) in enumerate(lines):
+        if k == 0 or not said or re.match(r'[})\].&|?]|else\b', said):
+            continue
+        opener = next((p for p in reversed(lines[:k]) if p[3] and p[2] < indent), None)
+        if opener and (not opener[3].endswith('{') or re.search(r'\bmatch .*\{$|\b[A-Z]\w* \{$', opener[3])):
+            continue
+        last = k
+        while last + 1 < len(lines) - 1 and (
+            lines[last + 1][2] > indent or re.match(r'[})\].&|?]|else\b', lines[last + 1][3]) and lines[last + 1][2] == indent
+        ):
+            last += 1
+        whole = text[a:lines[last][1]].strip()
+        if whole.endswith((';', '}')):
+            blocks.setdefault(opener and opener[0], []).append((a, lines[last][1]))
+    return blocks.values()
+
+
+def alike(text):
+    """What may stand for what: calls with the same signature, and fields of one type in one struct."""
+    kin = {}
+    for name, head, _, _ in functions(text):
+        kin.setdefault(' '.join(head.split()), set()).add(name)
+    for m in re.finditer(r'\bstruct \w+[^;{]*\{([^}]*)\}', text):
+        for field, kind in re.findall(r'(\w+): ([^,\n]+),', m.group(1)):
+            kin.setdefault((m.start(), kind), set()).add(field)
+    return [names for names in kin.values() if len(names) > 1]
+
+
+def variants(texts):
+    """The plain variants of each enum in the texts."""
+    found = {}
+    for text in texts:
+        for m in re.finditer(r'\benum (\w+) \{([^}]*)\}', text):
+            found[m.group(1)] = re.findall(r'^ *([A-Z]\w*)(?: = \d+)?,', m.group(2), re.M)
+    return found
+
+
+def edits(text, kin, enums):
+    """(function, start, end, new text) of each edit of the bodies."""
+    plain = blanked(text)
+    for name, head, start, end in functions(plain):
+        body = plain[start:end]
+
+        def each(pattern):
+            return ((start + m.start(), start + m.end(), m) for m in re.finditer(pattern, body))
+
+        for a, b, m in each(OPERATOR):
+            for new in SWAPS[m.group()]:
+                yield name, a, b, new
+        for a, b, m in each(NUMBER):
+            n = int(m.group().replace('_', ''))
+            yield name, a, b, str(n + 1)
+            if n > 0:
+                yield name, a, b, str(n - 1)
+        for a, b, m in each(CONSTANT):
+            yield name, a, b, f'({m.group()} + 1)'
+            yield name, a, b, f'({m.group()} - 1)'
+        for a, b, m in each(r'\b(?:true|false)\b'):
+            yield name, a, b, {'true': 'false', 'false': 'true'}[m.group()]
+        for a, b, m in each(r'\bif (?!let )([^\n{}]+) \{'):
+            yield name, start + m.start(1), start + m.end(1), f'!({text[start + m.start(1):start + m.end(1)]})'
+        for a, b, m in each(r'(?<=[^\s.{}])\?;\n'):
+            line = plain.rindex('\n', 0, a) + 1
+            if not re.match(r' *let\b', plain[line:a]):
+                yield name, line, b, re.sub(r'\S', lambda s: 'let _ = ' + s.group(), text[line:a], count=1) + ';\n'
+        for a, b, m in each(r'\bSome\((?![^()]*\) =)'):
+            yield name, a, closing(plain, b - 1) + 1, 'None'
+        if head.endswith('-> Result<(), Fault> '):
+            for a, b, m in each(r'(?<=\n)( +(?:return )?)\(*[a-z*][\w.*()]*\([^\n]*\)(?=;?\n)'):
+                if 'return' in m.group(1) or re.match(r'\n *\}$', plain[b:end]):
+                    yield name, start + m.end(1), b, 'Ok(())'
+        for parts in groups(plain, start, end):
+            for (a, b), (c, d) in zip(parts, parts[1:]):
+                alien = text[a].isupper() != text[c].isupper()
+                if text[a:b] != text[c:d] and '\n' not in text[a:d] and not alien:
+                    yield name, a, d, text[c:d] + text[b:c] + text[a:b]
+        for block in statements(plain, start, end):
+            # The value of a body is no statement.
+            block = [(a, b) for a, b in block if not re.match(r'\s*\}$', plain[b:end]) or plain[a:b].strip().endswith(';') or '->' not in head]
+            for a, b in block:
+                if not re.match(r'\s*let\b', plain[a:b]):
+                    yield name, a, b, ''
+            for (a, b), (c, d) in zip(block, block[1:]):
+                if not text[b:c].strip():
+                    yield name, a, d, text[c:d] + text[b:c] + text[a:b]
+        kinds = {}
+        for parameter, kind in re.findall(r'(\w+): ([^,)]+)', head):
+            kinds.setdefault(kind, set()).add(parameter)
+        for names in kinds.values():
+            for a, b, m in each(r'(?<![.\w])(?:' + '|'.join(sorted(names)) + r')\b(?!:)'):
+                for new in sorted(names - {m.group()}):
+                    yield name, a, b, new
+        for names in kin:
+            for a, b, m in each(r'(?<=\.)(?:' + '|'.join(sorted(names)) + r')\b'):
+                for new in sorted(names - {m.group()}):
+                    yield name, a, b, new
+        for a, b, m in each(r'\b([A-Z]\w*)::([A-Z]\w*)\b(?!\()'):
+            others = enums.get(m.group(1), [])
+            if len(others) > 1 and m.group(2) in others:
+                yield name, start + m.start(2), b, others[(others.index(m.group(2)) + 1) % len(others)]
+
+
+def planted(crate, start, count, only):
+    """The edits that are picked, as (file, text, function, start, end, new text)."""
+    sources = {f: f.read_text() for f in sorted(pathlib.Path('crates', crate, 'src').rglob('*.rt'))}
+    kin = alike('\n'.join(blanked(t) for t in sources.values()))
+    enums = variants(f.read_text() for f in sorted(pathlib.Path('crates').glob('*/src/*.rt')))
+    found = []
+    for file, text in sources.items():
+        for name, a, b, new in edits(text, kin, enums):
+            line = text[text.rindex('\n', 0, a) + 1:text.index('\n', a)]
+            if only is None or only in name or only in line:
+                found.append((file, text, name, a, b, new))
+    random.Random(start).shuffle(found)
+    return len(found), found[:count]
+
+
+def check(folder, crate):
+    """What `rt check` says of the crate in the copy."""
+    try:
+        run = subprocess.run(['rt', 'check'], cwd=folder / 'crates' / crate, text=True, timeout=900,
+                             stdout=subprocess.PIPE, stderr=subprocess.STDOUT)
+        return run.stdout
+    except subprocess.TimeoutExpired:
+        return 'logic=not-proved\nno answer in 900 s\n'
+
+
+GONE = re.compile(r'has no `([\w+-]+)` that can be named from here(?: \(did you mean `([\w+-]+)`)?')
+UNFIT = re.compile(r'that can be named from here|has no field|is not in scope|was not admitted')
+FALSE = re.compile(r'^note: \S+: it is not proved .*is false.*$', re.M)
+OPEN = re.compile(r'^note: \S+: it is not proved .*$', re.M)
+ERROR = re.compile(r'^\S+: error\b.*$', re.M)
+DIFFER = re.compile(r'(?:first differ|differ only) where one has `([^`]*)`.*?the other has `([^`]*)`', re.S)
+STEP = re.compile(r'\.before\b|\bLts\b')
+
+
+def verdict(said):
+    """The verdict, and the line of the output that tells why: a goal that is false, one left open, or the first error."""
+    if re.search(r'^logic=proved', said, re.M):
+        return 'accepted', ''
+    error = ERROR.search(said)
+    if not re.search(r'^logic=not-proved', said, re.M):
+        return 'invalid', (error or re.search(r'.*error.*|.*', said)).group()
+    wrong, gone = FALSE.search(said), error and UNFIT.search(error.group())
+    goal = wrong or not gone and OPEN.search(said)
+    if goal or not error:
+        return 'refused', (goal or re.search(r'^fn .*(?:no proof|not proved).*$|.*', said, re.M)).group()
+    # Two values that differ are a fact; two steps may only have changed places.
+    differ = DIFFER.search(said, error.start())
+    value = differ and not any(STEP.search(v) for v in differ.groups())
+    return 'refused' if value and not gone else 'unfit', error.group()
+
+
+def rename(folder, said):
+    """Gives a step its new name in the proof files of its function; answers their old texts."""
+    gone = GONE.search(said)
+    old, new = (gone.group(1).split('-'), gone.group(2).split('-')) if gone and gone.group(2) else ([], [])
+    parts = [(o, n) for o, n in zip(old, new) if o != n]
+    if len(old) != len(new) or len(parts) != 1:
+        return {}
+    file = folder / re.match(r'(\S+?):\d', said[said.rindex('\n', 0, gone.start()) + 1:]).group(1)
+    texts = {proof: proof.read_text() for proof in file.parent.glob('*.antt')}
+    for proof, text in texts.items():
+        proof.write_text(re.sub(rf'(?<=-){parts[0][0]}(?![\w])', parts[0][1], text))
+    return texts
+
+
+def judged(folder, crate):
+    """What is said of the edited crate, after names of steps that the edit changed have been changed in the proof files too."""
+    said, kept = check(folder, crate), {}
+    for _ in range(3):
+        texts = rename(folder / 'crates' / crate, said) if verdict(said)[0] == 'unfit' else {}
+        if not texts:
+            break
+        kept = {**texts, **kept}
+        said = check(folder, crate)
+    for proof, text in kept.items():
+        proof.write_text(text)
+    return ('(renamed)\n' if kept else '\n') + said
+
+
+def main():
+    parser = argparse.ArgumentParser(description=__doc__, formatter_class=argparse.RawDescriptionHelpFormatter)
+    parser.add_argument('crate')
+    parser.add_argument('start', type=int)
+    parser.add_argument('count', type=int)
+    parser.add_argument('--only')
+    parser.add_argument('--scratch', type=pathlib.Path)
+    parser.add_argument('--list', action='store_true')
+    args = parser.parse_args()
+    places, picked = planted(args.crate, args.start, args.count, args.only)
+    print(f'{args.crate}: {places} edits, {len(picked)} picked from {args.start}', flush=True)
+    folder = args.scratch or pathlib.Path(tempfile.mkdtemp(prefix='planted-bugs.'))
+    logs = folder / 'logs'
+    logs.mkdir(parents=True, exist_ok=True)
+    try:
+        if not args.list:
+            shutil.copytree('crates', folder / 'crates', dirs_exist_ok=True, ignore=shutil.ignore_patterns('out'))
+            shutil.copy('crates.txt', folder)
+            if verdict(check(folder, args.crate))[0] != 'accepted':
+                sys.exit(f'plant-bugs: {args.crate} is not proved as it stands')
+        counts = dict.fromkeys(['refused', 'unfit', 'invalid', 'accepted'], 0)
+        for file, text, name, a, b, new in picked:
+            edited = text[:a] + new + text[b:]
+            what = f'{" ".join(text[a:b].split())} -> {" ".join(new.split())}'
+            place = f'{file}:{text.count(chr(10), 0, a) + 1}: {name}: {what}'
+            if args.list:
+                print(place)
+                continue
+            log = logs / hashlib.sha256(f'{file}\n{edited}'.encode()).hexdigest()[:16]
+            if not log.exists():
+                (folder / file).write_text(edited)
+                log.write_text(judged(folder, args.crate))
+                (folder / file).write_text(text)
+            said = log.read_text()
+            word, why = verdict(said.split('\n', 1)[1])
+            counts[word] += 1
+            print(f'{word:8} {place}\n         {said.splitlines()[0]} {why[:300]}  [{log.name}]', flush=True)
+        print(f'{args.crate} {args.start}: {len(picked)} planted, ' + ', '.join(f'{n} {w}' for w, n in counts.items()))
+    finally:
+        if not args.scratch:
+            shutil.rmtree(folder)
+
+
+if __name__ == '__main__':
+    main()

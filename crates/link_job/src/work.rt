@@ -44,7 +44,10 @@ pub fn walk<D: Device>(heap: Global, database: &mut Database<D>) -> anyhow::Resu
     let mut at = (0, 0);
     let mut page = page_buffer(heap)?;
     for _ in 0..MOST_STEPS {
-        let Outcome { answer, page: shown } = step(heap, database, at, page)?;
+        let Outcome {
+            answer,
+            page: shown,
+        } = step(heap, database, at, page)?;
         let Some(shown) = shown else {
             bail!("a page buffer was not handed out");
         };

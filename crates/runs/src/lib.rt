@@ -4,7 +4,7 @@
 pub mod kinds;
 
 ghost use Rattle.std.specs.Prelude.{◌≡◌};
-ghost use Rattle.std.specs.Prelude.{[], IfOk, None, OnErr, Option as Maybe, Some};
+ghost use Rattle.std.specs.Prelude.{[], IfOk, None, OnErr, Some};
 ghost use Rattle.contents.specs.Blocks.{blocks_of};
 ghost use Rattle.runs.specs.Law.{Along};
 ghost use Rattle.runs.specs.Performed.{Performed, Ran, told_as};

@@ -1,8 +1,10 @@
-/* Times fetches and walks over databases that the real sdbm wrote, ours beside that sdbm, in nanoseconds. See `run`.
+/* Times fetches and walks over databases that the real sdbm wrote, and stores into empty ones, ours beside that sdbm, in
+ * nanoseconds. See `run`.
  *
  * The real sdbm is the one that comes with Perl: its C functions stand in the library of SDBM_File, which is loaded here and
- * called without Perl. It reads the files, which lie in memory-backed storage; ours have the files' bytes in memory.
- * Ours check every page that they read, at every read. Before any timing, both have to find and to count the same. */
+ * called without Perl. It reads and writes files, which lie in memory-backed storage; ours have an image in memory.
+ * Ours check every page that they read, at every read. Both have to find and to count the same, and what was stored has to be
+ * there afterwards. */
 
 #include <dlfcn.h>
 #include <fcntl.h>
@@ -21,6 +23,8 @@ uint64_t sym_fetch_slotted(const uint8_t *image, size_t len, bool cached, const 
 /* how many pairs so many walks show */
 uint64_t sym_walk_flat(const uint8_t *image, size_t len, bool cached, uint32_t rounds);
 uint64_t sym_walk_slotted(const uint8_t *image, size_t len, bool cached, uint32_t rounds);
+/* whether each of the names was stored with the value, and all brought down to the image */
+bool sym_store_slotted(uint8_t *image, size_t len, bool cached, const uint8_t *names, size_t nlen, const uint8_t *value, size_t vlen);
 
 /* ---- the real sdbm ---- */
 
@@ -32,6 +36,7 @@ typedef struct {
 static void *(*sdbm_open)(const char *, int, int);
 static void (*sdbm_close)(void *);
 static datum (*sdbm_fetch)(void *, datum);
+static int (*sdbm_store)(void *, datum, datum, int);
 static datum (*sdbm_firstkey)(void *);
 static datum (*sdbm_nextkey)(void *);
 
@@ -55,6 +60,7 @@ static void load_sdbm(const char *path)
     *(void **)&sdbm_open = symbol(library, "sdbm_open");
     *(void **)&sdbm_close = symbol(library, "sdbm_close");
     *(void **)&sdbm_fetch = symbol(library, "sdbm_fetch");
+    *(void **)&sdbm_store = symbol(library, "sdbm_store");
     *(void **)&sdbm_firstkey = symbol(library, "sdbm_firstkey");
     *(void **)&sdbm_nextkey = symbol(library, "sdbm_nextkey");
 }
@@ -63,6 +69,7 @@ static void load_sdbm(const char *path)
 
 #define PAGE 1024
 #define DIRECTORY 4096
+#define REPLACE 1 /* how sdbm_store is told to replace */
 #define SLOT 32
 #define RECORD 1030
 
@@ -170,10 +177,11 @@ typedef uint64_t run(struct bytes names, uint32_t rounds);
 #define REPEATS 21
 #define CALLS 100000 /* about so many calls are timed at once */
 
+/* The time of the processor, system calls too, so that other work on the machine counts for little. */
 static double now(void)
 {
     struct timespec t;
-    clock_gettime(CLOCK_MONOTONIC, &t);
+    clock_gettime(CLOCK_PROCESS_CPUTIME_ID, &t);
     return (double)t.tv_sec * 1e9 + (double)t.tv_nsec;
 }
 
@@ -232,6 +240,143 @@ static void row(const char *title, run *const runs[5], struct bytes names, unsig
             met = false;
 }
 
+/* ---- stores ---- */
+
+#define STORES 10000 /* at least so many are timed at once */
+#define SPARE 64     /* records of an empty image beyond one for each page of the sdbm's file */
+
+/* A database that is emptied, stored into, and looked at again. */
+struct storing {
+    void (*empty)(void);
+    /* opens it, stores each of the names, and closes it */
+    bool (*store)(struct bytes names);
+    /* whether it holds these names and no other */
+    bool (*holds)(struct bytes names);
+};
+
+/* the value of each name: an address, a size and an offset, as a linker has them */
+static uint8_t value[10] = {0, 16, 0, 0, 1};
+static struct bytes image;
+static char new_files[4096]; /* the path of the sdbm's, without its two endings */
+
+static void empty_image(void)
+{
+    memset(image.at, 0, image.len);
+}
+
+static bool store_slotted(struct bytes names)
+{
+    return sym_store_slotted(image.at, image.len, false, names.at, names.len, value, sizeof value);
+}
+
+static bool store_cached(struct bytes names)
+{
+    return sym_store_slotted(image.at, image.len, true, names.at, names.len, value, sizeof value);
+}
+
+static bool image_holds(struct bytes names)
+{
+    return sym_fetch_slotted(image.at, image.len, false, names.at, names.len, 1) == names.len / SLOT
+        && sym_walk_slotted(image.at, image.len, false, 1) == names.len / SLOT;
+}
+
+static void remove_files(void)
+{
+    char file[4200];
+    snprintf(file, sizeof file, "%s.dir", new_files);
+    remove(file);
+    snprintf(file, sizeof file, "%s.pag", new_files);
+    remove(file);
+}
+
+static void *open_files(int flags)
+{
+    void *files = sdbm_open(new_files, flags, 0644);
+    if (files == NULL) {
+        perror(new_files);
+        exit(1);
+    }
+    return files;
+}
+
+static bool store_files(struct bytes names)
+{
+    bool done = true;
+    datum given = {(const char *)value, sizeof value};
+    void *files = open_files(O_RDWR | O_CREAT);
+    for (const uint8_t *slot = names.at; slot < names.at + names.len; slot += SLOT) {
+        datum key = {(const char *)slot + 1, slot[0]};
+        done &= sdbm_store(files, key, given, REPLACE) == 0;
+    }
+    sdbm_close(files);
+    return done;
+}
+
+static bool files_hold(struct bytes names)
+{
+    bool all = true;
+    size_t keys = 0;
+    void *files = open_files(O_RDONLY);
+    for (const uint8_t *slot = names.at; slot < names.at + names.len; slot += SLOT) {
+        datum key = {(const char *)slot + 1, slot[0]};
+        datum found = sdbm_fetch(files, key);
+        all &= found.dptr != NULL && found.dsize == sizeof value && memcmp(found.dptr, value, sizeof value) == 0;
+    }
+    for (datum key = sdbm_firstkey(files); key.dptr != NULL; key = sdbm_nextkey(files))
+        keys++;
+    sdbm_close(files);
+    return all && keys == names.len / SLOT;
+}
+
+static double time_stored(const struct storing *in, struct bytes names)
+{
+    in->empty();
+    double start = now();
+    bool done = in->store(names);
+    double time = now() - start;
+    if (!done || !in->holds(names)) {
+        fprintf(stderr, "the names that were stored are not those that are there\n");
+        exit(1);
+    }
+    return time;
+}
+
+/* nanoseconds for a store. What opening and closing takes, with no names, is taken off. */
+static double each_store(const struct storing *in, struct bytes names)
+{
+    struct bytes none = {names.at, 0};
+    size_t count = names.len / SLOT, runs = (STORES + count - 1) / count;
+    double time = 0;
+    for (size_t r = 0; r < runs; r++)
+        time += time_stored(in, names) - time_stored(in, none);
+    return time / (double)(runs * count);
+}
+
+static bool store_met = true;
+
+/* The row of stores: ours on a slotted image, directly and through a cache, and the sdbm's last, in turns. */
+static void store_row(struct bytes names)
+{
+    static const struct storing in[3] = {
+        {empty_image, store_slotted, image_holds},
+        {empty_image, store_cached, image_holds},
+        {remove_files, store_files, files_hold},
+    };
+    static double times[3][REPEATS];
+    double it[3];
+    for (int r = -1; r < REPEATS; r++)
+        for (int i = 0; i < 3; i++) {
+            double time = each_store(&in[i], names);
+            if (r >= 0)
+                times[i][r] = time;
+        }
+    for (int i = 0; i < 3; i++)
+        it[i] = median(times[i]);
+    printf("%-22s %8s %8.1f %8s %8.1f %8.1f\n", "store", "-", it[0], "-", it[1], it[2]);
+    if (it[0] > it[2] || it[1] > it[2])
+        store_met = false;
+}
+
 int main(int argc, char **argv)
 {
     static run *const fetches[5] = {fetch_flat, fetch_slotted, fetch_cached_flat, fetch_cached_slotted, sdbm_fetches};
@@ -263,6 +408,12 @@ int main(int argc, char **argv)
         row("walk, pairs", pairs, hits, count, count, false);
         row("walk, sdbm's by keys", keys, hits, count, count, false);
         sdbm_close(db);
+        snprintf(new_files, sizeof new_files, "%s/stored", argv[2]);
+        image.len = (pag.len / PAGE + SPARE) * RECORD;
+        image.at = calloc(1, image.len);
+        store_row(hits);
+        remove_files();
+        free(image.at);
         free(dir.at);
         free(pag.at);
         free(flat.at);
@@ -271,5 +422,6 @@ int main(int argc, char **argv)
         free(misses.at);
     }
     printf("\naim, a fetch in no more time than the real sdbm's, on each of the four stacks: %s\n", met ? "met" : "not met");
+    printf("aim, a store in no more time than the real sdbm's, directly and through a cache: %s\n", store_met ? "met" : "not met");
     return 0;
 }

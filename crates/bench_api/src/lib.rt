@@ -1,5 +1,5 @@
-// The page functions as C calls them, for the benchmark in bench/pages, where each call checks its page; and runs of fetches and
-// walks of a database, for the one in bench/database.
+// The page functions as C calls them, for the benchmark in bench/pages, where each call checks its page; and runs of fetches, walks
+// and stores of a database, for the one in bench/database.
 #![tactic(auto)]
 
 mod runs;
@@ -7,7 +7,7 @@ mod runs;
 ghost use Rattle.std.specs.Prelude.{◌≡◌, ◌*◌, Decides, IfSome};
 ghost use Rattle.keys.specs.Hash.{hash};
 ghost use Rattle.bench_api.specs.Answers.{Edited, IfItFits, StartsAt};
-ghost use Rattle.bench_api.specs.Runs.{Counts, held_among, pairs_held, slots_of};
+ghost use Rattle.bench_api.specs.Runs.{Counts, Stored, held_among, pairs_held, slots_of};
 ghost use Rattle.contents.specs.Blocks.{blocks_of};
 ghost use Rattle.contents.specs.Contents.{contents_of};
 ghost use Rattle.flat.specs.Blocks.{flat};
@@ -20,7 +20,7 @@ use flat::Flat;
 use keys::hash_of;
 use page_edits::{append, keep, without};
 use pages::PairPage;
-use runs::{NONE, fetches, walks};
+use runs::{NONE, fetches, stores, walks};
 use slotted::Slotted;
 use std::alloc::Global;
 
@@ -144,6 +144,32 @@ pub extern "C" fn sym_walk_slotted(heap: Global, image: &[u8], cached: bool, rou
         return NONE;
     };
     walks(device, cached, rounds)
+}
+
+// Stores each of the names with one value in the database in a slotted image, through a cache or not, and says whether all of it was
+// done; where a call was refused or there was no memory, the image stays.
+#[unsafe(no_mangle)]
+pub extern "C" fn sym_store_slotted(
+    heap: Global,
+    image: &mut [u8],
+    cached: bool,
+    names: &[u8],
+    value: &[u8],
+) -> bool
+    ensures { Stored image.old (slots_of names.now) value.now result image.new }
+{
+    let Some(device) = open_slotted(heap, image) else {
+        return false;
+    };
+    let Some(device) = stores(device, cached, names, value) else {
+        return false;
+    };
+    let bytes = device.into_bytes();
+    if bytes.len() != image.len() {
+        return false;
+    }
+    image.copy_from_slice(&bytes);
+    true
 }
 
 // A flat device of a copy of an image; none where there is no memory.

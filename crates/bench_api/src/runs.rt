@@ -1,10 +1,12 @@
-// Runs of fetches and walks.
+// Runs of fetches, walks and stores.
 ghost use Rattle.std.specs.Prelude.{◌≡◌, ◌*◌, IfSome, is_some};
-ghost use Rattle.bench_api.specs.Runs.{Counts, ShowsRest, held_among, name_in, pairs_held, slots_of};
+ghost use Rattle.bench_api.specs.Runs.{Brings, Counts, ShowsRest, Stores, Updates, held_among, name_in, pairs_held, slots_of};
 ghost use Rattle.contents.specs.Blocks.{blocks_of};
 ghost use Rattle.contents.specs.Contents.{contents_of, held};
+ghost use Rattle.upkeep.specs.Holding.{backing_of};
 
 use cache::Cache;
+use calls::Mode;
 use database::{Database, Position, Stepped};
 use devices::{BLOCK, Device};
 
@@ -121,4 +123,58 @@ fn step<D: Device>(
     ensures same { blocks_of (D.Device.meaning database.new.device) ≡ blocks_of (D.Device.meaning database.old.device) }
 {
     database.step(at, page).ok()
+}
+
+// Stores each of the names with one value, through a cache or not, brings all of it down to the bottom, and gives the device back;
+// none where a call was refused.
+pub(crate) fn stores<D: Device + Drop>(
+    device: D,
+    cached: bool,
+    names: &[u8],
+    value: &[u8],
+) -> Option<D>
+    ensures { IfSome result (λ e. Stores (D.Device.meaning device) (slots_of names.now) value.now (backing_of (D.Device.meaning e))) }
+{
+    if cached {
+        let cache = store_all(Cache::new(device), names, value)?;
+        return Some(cache.into_below());
+    }
+    store_all(device, names, value)
+}
+
+fn store_all<D: Device + Drop>(device: D, names: &[u8], value: &[u8]) -> Option<D>
+    ensures { IfSome result (λ e. Stores (D.Device.meaning device) (slots_of names.now) value.now (backing_of (D.Device.meaning e))) }
+{
+    let mut database = Database::new(device);
+    let (slots, _) = names.as_chunks::<SLOT>();
+    store_each(&mut database, slots, value)?;
+    flush(&mut database)?;
+    Some(database.into_device())
+}
+
+fn store_each<D: Device>(
+    database: &mut Database<D>,
+    slots: &[[u8; SLOT]],
+    value: &[u8],
+) -> Option<()>
+    ensures { IfSome result (λ _. Stores (D.Device.meaning database.old.device) slots.now value.now (D.Device.meaning database.new.device)) }
+{
+    for slot in slots {
+        store(database, name_of(slot), value)?;
+    }
+    Some(())
+}
+
+// A store of one pair; none where it is refused.
+fn store<D: Device>(database: &mut Database<D>, name: &[u8], value: &[u8]) -> Option<()>
+    ensures { IfSome result (λ _. Updates (D.Device.meaning database.old.device) name.now value.now (D.Device.meaning database.new.device)) }
+{
+    database.store(name, value, Mode::Replace).ok()
+}
+
+// Brings all that was stored down to the bottom; none where it is refused.
+fn flush<D: Device>(database: &mut Database<D>) -> Option<()>
+    ensures { IfSome result (λ _. Brings (D.Device.meaning database.old.device) (backing_of (D.Device.meaning database.new.device))) }
+{
+    database.flush().ok()
 }

@@ -29,7 +29,7 @@ cost_kept f (p ∷ ps) =
       | false ↦ omega (arith, cost_kept f ps)
     ]
 
-cost_take : (n : ℕ) (ps : List Pair) → cost (take n ps) ≤ cost ps
+pub cost_take : (n : ℕ) (ps : List Pair) → cost (take n ps) ≤ cost ps
 cost_take zero ps = omega arith
 cost_take (suc n) [] = omega arith
 cost_take (suc n) (p ∷ ps) = omega (arith, cost_take n ps)

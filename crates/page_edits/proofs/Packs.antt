@@ -1,5 +1,5 @@
 -- A page that is packed pair by pair.
-use Rattle.std.proofs.Common.{◌≡◌, ℕ, ◌+◌, ◌-◌, ◌*◌, ◌≤◌, List, [], ◌∷◌, ◌++◌, min, length, take, drop, replicate, sym, refl, ap, ◌∙◌, append_assoc, append-nil, arith, length-append}
+use Rattle.std.proofs.Common.{◌≡◌, ℕ, ◌+◌, ◌-◌, ◌*◌, ◌≤◌, List, [], ◌∷◌, ◌++◌, min, length, replicate, sym, refl, ap, ◌∙◌, append_assoc, arith, length-append}
 use lib.ListN.{length-replicate}
 use Rattle.pages.specs.Blank.{bytes_of}
 use Rattle.pages.proofs.Held.{end_at, good_in}
@@ -12,18 +12,6 @@ use Rattle.page_edits.specs.Bytes.{Packed, put}
 use Rattle.page_edits.specs.Edit.{with_pair}
 use Rattle.page_edits.specs.Laws.{middle}
 use Rattle.page_edits.specs.Write.{body, free, le2, len_of, offs, size, written}
-use Rattle.std.proofs.lemmas.List.{take-append-drop, length-take-le}
-
-pub packed_none : (out : List ℕ) → length out ≡ 1024 → Packed [] out 0 1024
-packed_none out l = record {
-  many = refl;
-  low = refl;
-  room = omega arith;
-  head = take 2 out;
-  mid = drop 2 out;
-  two = length-take-le 2 out (omega arith);
-  is = sym (ap (λ (t : List ℕ). take 2 out ++ t) (append-nil (drop 2 out)) ∙ take-append-drop 2 out);
-}
 
 pub packed_good : (page : List ℕ) → Bytes page → Good page → Packed (pairs_of page) page (pairs page) (key_end page (pairs page))
 packed_good page bytes g = record {

@@ -1,9 +1,9 @@
-ghost use Rattle.std.specs.Prelude.{◌≡◌};
+ghost use Rattle.std.specs.Prelude.{◌≡◌, ◌≤◌, filter, take};
 ghost use Rattle.page_edits.specs.Bytes.{Packed};
 ghost use Rattle.page_edits.specs.Edit.{Appended, Written, dropped, falling, falls, with_pair};
 ghost use Rattle.page_edits.specs.Stay.{all_but, stays};
 ghost use Rattle.pages.specs.Blank.{bytes_of};
-ghost use Rattle.pages.specs.Page.{pairs_of};
+ghost use Rattle.pages.specs.Page.{pairs, pairs_of};
 
 use crate::packing::Packing;
 use directory::low_bits;
@@ -65,7 +65,8 @@ pub fn replace(
     Ok(true)
 }
 
-// Packs the pairs that are kept into the buffer: those whose hash has these low bits, all but one key's where it is given.
+// Packs the pairs that are kept into the buffer: those whose hash has these low bits, all but one key's where it is given. Those
+// before the first that is not kept are copied as they lie, and nearly always these are all.
 // Each edit has it as a loop of its own: with one loop for all three `keep` took 13 % longer (660 ns for 582).
 #[inline(always)]
 fn copy_kept(
@@ -77,9 +78,10 @@ fn copy_kept(
 ) -> Packing
     ensures { Packed (all_but but.entry (falling bits low (pairs_of (bytes_of page.now.good)))) out.new result.count result.free }
 {
-    let mut packing = Packing::new();
+    let first = count_kept(page, but, bits, low);
+    let mut packing = Packing::front(page, first, out);
     // Over the numbers of the pairs: with a chain that gives their parts the proof of a turn did not close.
-    for k in 0..page.count() {
+    for k in first..page.count() {
         if let Some((pair, value_len)) = page.pair_bytes(k) {
             if stays(&pair[value_len..], but, bits, low) {
                 packing.push_bytes(pair, value_len, out);
@@ -87,6 +89,24 @@ fn copy_kept(
         }
     }
     packing
+}
+
+// How many pairs stand before the first that is not kept.
+#[inline(always)]
+fn count_kept(page: &PairPage, but: Option<&[u8]>, bits: u32, low: u32) -> usize
+    ensures within { result ≤ pairs (bytes_of page.now.good) }
+    ensures kept { filter (λ q. stays but.entry bits low q.0) (take result (pairs_of (bytes_of page.now.good))) ≡ take result (pairs_of (bytes_of page.now.good)) }
+{
+    let count = page.count();
+    for k in 0..count {
+        let Some((key, _)) = page.parts(k) else {
+            return k;
+        };
+        if !stays(key, but, bits, low) {
+            return k;
+        }
+    }
+    count
 }
 
 // Whether the pair of this key is kept.

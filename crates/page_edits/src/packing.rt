@@ -1,8 +1,8 @@
-ghost use Rattle.std.specs.Prelude.{◌≡◌, ℕ, ◌+◌, ◌*◌, ◌<◌, ◌≤◌, Decides, List, [], ◌∷◌, ◌++◌, length};
+ghost use Rattle.std.specs.Prelude.{◌≡◌, ℕ, ◌+◌, ◌*◌, ◌<◌, ◌≤◌, Decides, List, [], ◌∷◌, ◌++◌, length, take};
 ghost use Rattle.page_edits.specs.Bytes.{Packed, put};
 ghost use Rattle.page_edits.specs.Write.{le2, written};
 ghost use Rattle.pages.specs.Blank.{bytes_of};
-ghost use Rattle.pages.specs.Page.{Pair, pairs_of};
+ghost use Rattle.pages.specs.Page.{Pair, pairs, pairs_of};
 
 use crate::bytes::put16;
 use pages::{PAGE, PairPage};
@@ -18,22 +18,23 @@ pub(crate) struct Packing {
 }
 
 impl Packing {
-    // No pair yet.
-    pub(crate) fn new() -> Packing
-        ensures count { result.count ≡ 0 }
-        ensures free { result.free ≡ 1024 }
-    {
-        Packing {
-            count: 0,
-            free: PAGE,
-        }
-    }
-
     // All pairs of a page, as they lie there.
     pub(crate) fn of(page: &PairPage) -> Packing
         ensures { Packed (pairs_of (bytes_of page.now.good)) (bytes_of page.now.good) result.count result.free }
     {
         let count = page.count();
+        Packing {
+            count,
+            free: page.key_end(count),
+        }
+    }
+
+    // The first pairs of a page, as they lie there, in the buffer.
+    pub(crate) fn front(page: &PairPage, count: usize, out: &mut [u8; PAGE]) -> Packing
+        requires { count ≤ pairs (bytes_of page.now.good) }
+        ensures { Packed (take count (pairs_of (bytes_of page.now.good))) out.new result.count result.free }
+    {
+        out.copy_from_slice(page.bytes());
         Packing {
             count,
             free: page.key_end(count),

@@ -1,15 +1,15 @@
 -- What the pairs that stay beside a key take of its page.
-use Rattle.std.proofs.Common.{◌≡◌, ℕ, ◌+◌, ◌*◌, ◌<◌, ◌≤◌, Bool, true, false, not, ◌&&◌, List, [], ◌∷◌, ◌++◌, length, get_or, take, drop, sym, refl, ap, ◌∙◌, ⊎_elim, arith, le-leb, length-append, take-append-drop}
+use Rattle.std.proofs.Common.{◌≡◌, ℕ, ◌+◌, ◌*◌, ◌<◌, ◌≤◌, Bool, true, false, not, ◌&&◌, List, [], ◌∷◌, ◌++◌, length, get_or, take, drop, sym, refl, ap, ◌∙◌, Option, Some, None, MatchOption, is_some, ⊎_elim, arith, le-leb, leb-true, length-append, take-append-drop}
 use Rattle.directory.specs.Tree.{low}
 use Rattle.keys.specs.Hash.{hash}
 use Rattle.keys.specs.Same.{same}
 use Rattle.page_edits.proofs.Cut.{size_append}
-use Rattle.page_edits.proofs.Kept.{cost}
+use Rattle.page_edits.proofs.Kept.{cost, cost_kept}
 use Rattle.page_edits.specs.Edit.{dropped, falling, falls, with_pair}
 use Rattle.page_edits.specs.Write.{size}
 use Rattle.pages.proofs.Looks.{length_pairs, none, pair_at}
 use Rattle.pages.specs.Page.{Pair, key_of, pairs, pairs_of, val_of}
-use Rattle.splits.specs.Plan.{fits_at}
+use Rattle.splits.specs.Plan.{fits_at, has_room}
 use Rattle.splits.specs.Writes.{others}
 use Rattle.std.proofs.lemmas.Bool.{and_parts, cases_Bool, lt-leb}
 use Rattle.std.proofs.lemmas.List.Elements.{filter-append}
@@ -78,3 +78,26 @@ pub too_few : (ps : List Pair) (key value : List ℕ) (t : ℕ) → 1022 < cost 
 too_few ps key value t l =
     let more = with_pair (others ps key t) key value in
     lt-leb (2 + (4 * length more + size more)) 1024 (omega (arith, cost_append (others ps key t) ((key, value) ∷ [])))
+
+-- what the code has left of a page whose pairs are these, and whether it is enough
+pub beside_all : (ps : List Pair) (key value : List ℕ) (free : ℕ) (left : Option ℕ) → free + (2 + cost ps) ≡ 1024 → MatchOption left (free < 4 + (length key + length value)) (λ n. n + (4 + (length key + length value)) ≡ free) → is_some left ≡ has_room (with_pair ps key value)
+beside_all ps key value free (Some n) is m =
+    let more = with_pair ps key value in
+    sym (le-leb (2 + (4 * length more + size more)) 1024 (omega (arith, is, m, cost_append ps ((key, value) ∷ []))))
+beside_all ps key value free None is m =
+    let more = with_pair ps key value in
+    sym (lt-leb (2 + (4 * length more + size more)) 1024 (omega (arith, is, m, cost_append ps ((key, value) ∷ []))))
+
+-- room beside all pairs is room beside those that stay
+pub room_stays : (ps : List Pair) (key value : List ℕ) (t : ℕ) → has_room (with_pair ps key value) ≡ true → fits_at ps key value t ≡ true
+room_stays ps key value t room =
+    let more = with_pair ps key value in
+    let p = low (hash key) t in
+    enough ps key value t
+    (omega (
+      arith,
+      leb-true (2 + (4 * length more + size more)) 1024 room,
+      cost_append ps ((key, value) ∷ []),
+      cost_kept (λ q. falls t p q.0) ps,
+      cost_kept (λ q. not (same q.0 key)) (falling t p ps),
+    ))

@@ -1,9 +1,9 @@
 ghost use Rattle.std.specs.Prelude.{◌≡◌, ◌+◌, ◌<◌, length, not, MatchOption, ◌&&◌};
 ghost use Rattle.keys.specs.Same.{same};
-ghost use Rattle.page_edits.specs.Edit.{falls};
+ghost use Rattle.page_edits.specs.Edit.{falls, with_pair};
 ghost use Rattle.pages.specs.Blank.{bytes_of};
 ghost use Rattle.pages.specs.Page.{pairs_of};
-ghost use Rattle.splits.specs.Plan.{plan};
+ghost use Rattle.splits.specs.Plan.{has_room, plan};
 
 use directory::{Leaf, low_bits};
 use keys::{hash_of, same_key};
@@ -20,6 +20,10 @@ const MAX_DEPTH: u32 = 15;
 pub fn plan(page: &PairPage, leaf: &Leaf, key: &[u8], value: &[u8]) -> Option<u32>
     ensures { result ≡ plan (pairs_of (bytes_of page.now.good)) key.now value.now leaf.now.depth }
 {
+    // Nearly always: then there is room beside those of them that stay, and which these are need not be known.
+    if fits_beside_all(page, key, value) {
+        return Some(0);
+    }
     let hash = hash_of(key);
     let beside = room_beside(PAGE - 2, key, value)?;
     let most = MAX_SPLITS.min(MAX_DEPTH.saturating_sub(leaf.depth));
@@ -46,6 +50,14 @@ pub fn plan(page: &PairPage, leaf: &Leaf, key: &[u8], value: &[u8]) -> Option<u3
         }
         break Some(s);
     }
+}
+
+// Whether there is room for the pair beside all pairs of the page.
+fn fits_beside_all(page: &PairPage, key: &[u8], value: &[u8]) -> bool
+    ensures { result ≡ has_room (with_pair (pairs_of (bytes_of page.now.good)) key.now value.now) }
+{
+    let count = page.count();
+    room_beside(page.key_end(count) - (4 * count + 2), key, value).is_some()
 }
 
 // Whether the pair of another key stays on the key's page, which has these low bits at this depth. The key's own old pair

@@ -1,14 +1,15 @@
-use Rattle.std.proofs.Common.{length, ap, ◌∙◌, arith, length-append}
+use Rattle.std.proofs.Common.{List, length, ap, sym, subst, ◌∙◌, arith, length-append}
 use Rattle.page_edits.proofs.Kept.{kept_all, kept_no, kept_room, kept_yes, key_in_bytes, staying}
-use Rattle.page_edits.proofs.Packs.{packed_none}
 use Rattle.pages.specs.Blank.{bytes_of}
 use Rattle.pages.specs.Page.{Pair, key_of, pairs_of, val_of}
+use Rattle.page_edits.specs.Bytes.{Packed}
 use Rattle.page_edits.specs.Stay.{stays}
 use Rattle.page_edits.proofs.keeping.copy_kept.Goals as goal
 use Rattle.page_edits.proofs.keeping.copy_kept.Goals.{in-Some+then-stays, in-Some+else-stays, in_default}
 
 pub loop-k-init : goal.loop-k-init
-loop-k-init c = rw (c.new-packing.ensures.count, c.new-packing.ensures.free) (packed_none c.args.out.now (omega arith))
+loop-k-init c =
+    subst (λ (ps : List Pair). Packed ps c.front-packing.new.out c.front-packing.result.count c.front-packing.result.free) (sym c.count_kept-first.ensures.kept) c.front-packing.ensures
 
 pub push_bytes-requires-clause-room : goal.push_bytes-requires-clause-room
 push_bytes-requires-clause-room c =

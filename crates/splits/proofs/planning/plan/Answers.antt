@@ -1,11 +1,11 @@
-use Rattle.std.proofs.Common.{ℕ, ◌+◌, List, min, refl, ap, ◌∙◌, arith, below_more, take_all}
+use Rattle.std.proofs.Common.{ℕ, ◌+◌, List, min, refl, sym, ap, ◌∙◌, arith, below_more, take_all}
 use Rattle.directory.specs.Tree.{low}
 use Rattle.page_edits.proofs.Kept.{cost}
 use Rattle.pages.proofs.Looks.{length_pairs}
 use Rattle.pages.specs.Blank.{bytes_of}
 use Rattle.pages.specs.Page.{Pair, pairs_of}
 use Rattle.splits.specs.Writes.{others}
-use Rattle.splits.proofs.Costs.{cost_front, enough, first_leaves, first_stays, too_few}
+use Rattle.splits.proofs.Costs.{cost_front, enough, first_leaves, first_stays, room_stays, too_few}
 use Rattle.splits.proofs.Plans.{plan_none, plan_some}
 use Rattle.splits.proofs.planning.plan.Goals as goal
 
@@ -47,3 +47,11 @@ returns-after-loop-k c =
     let fits = enough pairs c.args.key.now c.args.value.now t (omega (arith, all, c.loop-k.invariant.1, c.in_ok-beside.ensures)) in
     rw c.loop-k.invariant.0
     (plan_some _ _ _ _ _ (c.min-most.ensures ∙ ap (min 10) c.saturating_sub.ensures) c.splits.s (omega (arith, c.if-s-most.false)) fits c.splits.invariant.1)
+
+pub returns-then-fits_beside_all : goal.returns-then-fits_beside_all
+returns-then-fits_beside_all c =
+    let pairs = pairs_of (bytes_of c.args.page.now.good) in
+    let t = c.args.leaf.now.depth in
+    plan_some pairs c.args.key.now c.args.value.now t _ refl 0 (omega arith)
+    (room_stays pairs c.args.key.now c.args.value.now (t + 0) (sym c.fits_beside_all.ensures ∙ c.if-fits_beside_all.true))
+    (λ r l. absurd (omega arith))

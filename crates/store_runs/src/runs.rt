@@ -178,8 +178,16 @@ impl Bench {
         let blocks = self.claims.take_down(&self.reads.model)?;
         self.reads.model = Model::new(limit, blocks);
         self.reads.same("the claims left below", &bottom.left(), &self.claims.left())?;
-        let held = (0..limit).filter(|n| bottom.holds(*n)).count();
-        self.reads.same("the number of held ones", &held, &self.claims.held().len())?;
+        self.reads.same(
+            "the number of held ones",
+            &count_held(bottom),
+            &self.claims.held().len(),
+        )?;
+        self.same_blocks(bottom)
+    }
+
+    // Compares every block that the bottom holds.
+    fn same_blocks<D: Device>(&self, bottom: &mut D) -> Result<(), Stop> {
         for n in self.claims.held() {
             self.same_block(bottom, *n)?;
         }
@@ -196,6 +204,11 @@ impl Bench {
         }
         self.reads.same_bytes("a block of the bottom", &block, &self.reads.model.block(n))
     }
+}
+
+// How many numbers a device holds.
+fn count_held<D: Device>(device: &D) -> usize {
+    (0..device.limit()).filter(|n| device.holds(*n)).count()
 }
 
 fn same_entry(one: &Entry, other: &Entry) -> bool {

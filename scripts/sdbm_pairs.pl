@@ -22,7 +22,8 @@ sub random_name {
     return pack('C*', map { 1 + int(rand($LARGEST)) } 1 .. $length);
 }
 
-# A name whose hash agrees with another in so many low bits: the last byte is chosen, if there is one that does.
+# A name whose hash agrees with another in so many low bits: the last byte sees to them. With fewer than three bytes before it
+# there may be no such name.
 sub name_near {
     my ($hash, $bits, $length) = @_;
     while (1) {
@@ -39,7 +40,7 @@ sub random_names {
     push @names, map { sprintf('symbol_%d', int(rand(1000))) } 1 .. 40;
     for my $bits (2, 5, 8, 9, 10, 12, 15) {
         next if rand() < 0.4;
-        push @names, map { name_near($hash, $bits, 1 + int(rand(8))) } 1 .. 3 + int(rand(8));
+        push @names, map { name_near($hash, $bits, 3 + int(rand(8))) } 1 .. 3 + int(rand(8));
     }
     return @names;
 }

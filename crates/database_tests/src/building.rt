@@ -1,10 +1,13 @@
 // Pages and databases for the tests, and refusals told by their numbers.
+use calls::Mode;
 use database::Database;
 use devices::{BLOCK, Device};
 use faults::Fault;
 use flat::Flat;
 use page_edits::append;
 use pages::PairPage;
+use records::{Member, Sort, Symbol};
+use slotted::Slotted;
 use std::alloc::{AllocError, Global};
 use std::test::Fail;
 
@@ -46,6 +49,42 @@ pub fn put<D: Device>(device: &mut D, n: u32, block: &[u8; BLOCK]) -> Result<(),
 pub fn flat_of(heap: Global, byte: u8, blocks: u8) -> Result<Flat, AllocError> {
     let bytes = vec![in heap; byte; usize::from(blocks) * BLOCK]?;
     Ok(Flat::new(bytes))
+}
+
+// A slotted device of so many free records.
+pub fn slotted_of(heap: Global, records: u8) -> Result<Slotted, Fail> {
+    let bytes = vec![in heap; 0; usize::from(records) * 1030]?;
+    Ok(Slotted::open(heap, bytes)?)
+}
+
+// The block of a number.
+pub fn block_at<D: Device>(device: &mut D, n: u32) -> Result<[u8; BLOCK], Fault> {
+    let mut block = UNTOUCHED;
+    device.read(n, &mut block)?;
+    Ok(block)
+}
+
+// A value so long that no page has two.
+pub const LONG: [u8; 600] = [9; 600];
+
+// A symbol and a member: those of flash_unlock and crti.o/ in the sample.
+pub const SYMBOL: Symbol = Symbol {
+    address: 0x4FF0,
+    section: 1,
+    addend: -12,
+};
+
+pub const MEMBER: Member = Member {
+    offset: 552,
+    length: 424,
+    sort: Sort::Data,
+};
+
+// Stores a and then c, each with a long value, in a blank database. Their hashes are 97 and 99, so that bit 1 is the first in
+// which they differ: bits 0 and 2 of the directory are set, a is on page 1, and c on page 3.
+pub fn store_long<D: Device>(database: &mut Database<D>) -> Result<(), Fault> {
+    database.store(b"a", &LONG, Mode::Insert)?;
+    database.store(b"c", &LONG, Mode::Insert)
 }
 
 // Page 0 of the split database: the stray pair (a, 3), and (b, 4).

@@ -1,24 +1,12 @@
 // The records of two kinds that are stored as values, each got as its kind and as the other.
-use crate::building::{UNTOUCHED, cut, flat_of, page_of, put, spoiled, told};
+use crate::building::{MEMBER, SYMBOL, UNTOUCHED, cut, flat_of, page_of, put, spoiled, told};
 use database::Database;
 use devices::BLOCK;
 use faults::Fault;
 use flat::Flat;
-use records::{LONGEST, Member, Record, Sort, Symbol};
+use records::{LONGEST, Member, Record, Symbol};
 use std::alloc::Global;
 use std::test::Fail;
-
-const SYMBOL: Symbol = Symbol {
-    address: 0x4FF0,
-    section: 1,
-    addend: -12,
-};
-
-const MEMBER: Member = Member {
-    offset: 552,
-    length: 424,
-    sort: Sort::Data,
-};
 
 // The page of a symbol under the key s, and of a member under m.
 fn records_page() -> Result<[u8; BLOCK], Fault> {

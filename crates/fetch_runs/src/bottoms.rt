@@ -1,9 +1,9 @@
 // The devices at the bottom of a stack.
-use crate::blocks::{BLOCK, Numbered};
-use crate::model::PAGES;
-use crate::random::Random;
 use devices::Device;
 use flat::Flat;
+use plain_model::blocks::{BLOCK, Numbered};
+use plain_model::random::Random;
+use plain_model::tree::PAGES;
 use slotted::Slotted;
 use std::alloc::{AllocError, Global};
 

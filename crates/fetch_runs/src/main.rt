@@ -1,28 +1,21 @@
 // Random fetches, gets and walks of random databases, on random stacks, beside a plain model.
 #![tactic(auto)]
 
-mod blocks;
 mod bottoms;
-mod databases;
-mod model;
-mod random;
 mod runs;
 mod stacks;
-mod tally;
-mod trail;
-mod watched;
 
-use blocks::{BLOCK, Numbered};
 use bottoms::Bottom;
-use databases::{State, random_database};
 use flat::Flat;
-use model::Model;
-use random::Random;
-use runs::{Bench, Stop};
+use plain_model::blocks::{BLOCK, Numbered};
+use plain_model::databases::{State, random_database};
+use plain_model::model::Model;
+use plain_model::random::Random;
+use plain_model::runs::{Bench, Stop};
+use plain_model::tally::{Tally, count};
 use slotted::Slotted;
 use stacks::{Height, Highest, base_of, random_stack};
 use std::alloc::AllocError;
-use tally::{Tally, count};
 
 // How many databases of each state are run, each on a stack of its own.
 const ROUNDS: u32 = 200;
@@ -39,19 +32,16 @@ struct Sums {
     calls: u64,
 }
 
-// Runs everything, and tells of it.
+// Runs everything, and tells of it. Fails at a difference.
 fn main(rt: HostRuntime) -> anyhow::Result<()> {
     let mut sums = Sums::default();
-    let differences = match run_all(&rt, &mut sums) {
-        Ok(()) => 0,
-        Err(Stop::Differs(text)) => {
-            println!(rt; "first difference: {text}")?;
-            1
-        }
-        Err(stop) => return Err(stop.into()),
-    };
+    let outcome = run_all(&rt, &mut sums);
     let Sums { databases, calls } = sums;
-    println!(rt; "databases: {databases}, calls: {calls}, differences: {differences}")?;
+    if matches!(&outcome, Err(Stop::Differs(_))) {
+        println!(rt; "a difference in database {databases}, call {calls}")?;
+    }
+    outcome?;
+    println!(rt; "databases: {databases}, calls: {calls}, differences: 0")?;
     Ok(())
 }
 

@@ -1,9 +1,10 @@
 // Stacks of a few layers over a device, on which blocks are written at every height, and the runs on them.
-use crate::random::Random;
-use crate::runs::{Bench, Stop};
+use crate::runs::{run, write_stale};
 use cache::Cache;
 use devices::Device;
 use faults::Layer;
+use plain_model::random::Random;
+use plain_model::runs::{Bench, Stop};
 use quota::Quota;
 use std::alloc::AllocError;
 use std::marker::PhantomData;
@@ -78,16 +79,16 @@ pub struct Above<H>(PhantomData<H>);
 impl Height for Ground {
     fn grow<D: Device + Drop>(bench: &mut Bench, _plans: &[Plan], below: D) -> Result<(), Stop> {
         let mut device = below;
-        bench.write_stale(&mut device, 1)?;
+        write_stale(bench, &mut device, 1)?;
         bench.model.open();
-        bench.run(device)
+        run(bench, device)
     }
 }
 
 impl<H: Height> Height for Above<H> {
     fn grow<D: Device + Drop>(bench: &mut Bench, plans: &[Plan], below: D) -> Result<(), Stop> {
         let mut device = below;
-        bench.write_stale(&mut device, 4)?;
+        write_stale(bench, &mut device, 4)?;
         // By kind: each makes a device of another type, which no one value could hold.
         match plans {
             [] => Ground::grow(bench, plans, device),

@@ -37,3 +37,10 @@ pub fn put_byte(bytes: &mut [u8], at: usize, byte: u8) {
         *old = byte;
     }
 }
+
+// Puts a part in, unless it reaches past the end.
+pub fn put_bytes(bytes: &mut [u8], at: usize, part: &[u8]) {
+    if let Some(to) = bytes.get_mut(at..at.saturating_add(part.len())) {
+        to.copy_from_slice(part);
+    }
+}

@@ -1,4 +1,4 @@
-// A device that notes what is read of it, and how many other calls are made.
+// A device that notes which calls are made on it.
 use crate::trail::Trail;
 use devices::Device;
 use faults::Fault;
@@ -7,7 +7,6 @@ use faults::Fault;
 pub struct Watched<D> {
     below: D,
     trail: Trail,
-    others: u64,
 }
 
 impl<D: Device> Watched<D> {
@@ -15,18 +14,12 @@ impl<D: Device> Watched<D> {
         Watched {
             below,
             trail: Trail::default(),
-            others: 0,
         }
     }
 
-    // What was read.
+    // What was called.
     pub fn trail(&self) -> Trail {
         self.trail
-    }
-
-    // How many claims, writes and flushes came.
-    pub fn others(&self) -> u64 {
-        self.others
     }
 }
 
@@ -48,22 +41,22 @@ impl<D: Device> Device for Watched<D> {
     }
 
     fn claim(&mut self, n: u32) -> Result<(), Fault> {
-        self.others = self.others.saturating_add(1);
+        self.trail.claim(n);
         self.below.claim(n)
     }
 
     fn read(&mut self, n: u32, into: &mut [u8]) -> Result<(), Fault> {
-        self.trail.note(n);
+        self.trail.read(n);
         self.below.read(n, into)
     }
 
     fn write(&mut self, n: u32, from: &[u8]) -> Result<(), Fault> {
-        self.others = self.others.saturating_add(1);
+        self.trail.write(n, from);
         self.below.write(n, from)
     }
 
     fn flush(&mut self) -> Result<(), Fault> {
-        self.others = self.others.saturating_add(1);
+        self.trail.flush();
         self.below.flush()
     }
 }

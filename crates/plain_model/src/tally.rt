@@ -1,4 +1,4 @@
-// How many calls were made, and how they ended.
+// How many calls that read were made, and how they ended.
 use faults::{Fault, Refusal};
 use std::fmt;
 

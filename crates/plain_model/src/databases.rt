@@ -1,7 +1,8 @@
 // Random databases: their blocks, and the keys that were put on their pages.
 use crate::blocks::{BLOCK, Numbered, number_at, put_byte, put_number};
-use crate::model::{DIRECTORY, DIRECTORY_BLOCKS, hash_of, home_of, under};
+use crate::packing::{Entry, Packer};
 use crate::random::Random;
+use crate::tree::{DIRECTORY, DIRECTORY_BLOCKS, hash_of, home_of, set_bit, under};
 use std::alloc::AllocError;
 
 // What a database is like: every pair at home, strays among them, or bytes changed anywhere.
@@ -15,19 +16,12 @@ pub enum State {
 // Pages are made up to so many.
 const MOST_PAGES: usize = 40;
 
-// A pair that stands on a page.
-#[derive(Drop)]
-struct Pair {
-    key: Vec<u8>,
-    value: Vec<u8>,
-}
-
 // A page while pairs are put on it.
 #[derive(Drop)]
 struct Page {
     number: u32,
     room: usize,
-    pairs: Vec<Pair>,
+    pairs: Vec<Entry>,
 }
 
 // A database: its blocks, none of which is stale, and its keys.
@@ -94,12 +88,6 @@ fn random_directory(random: &mut Random) -> [u8; DIRECTORY] {
         }
     }
     directory
-}
-
-fn set_bit(directory: &mut [u8; DIRECTORY], index: u32) {
-    if let Some(byte) = directory.get_mut((index / 8) as usize) {
-        *byte |= 1 << (index % 8);
-    }
 }
 
 fn push_directory(made: &mut Made, directory: &[u8; DIRECTORY]) -> Result<(), AllocError> {
@@ -178,7 +166,7 @@ fn put_pair(
             let there = page.pairs.iter().any(|pair| pair.key.as_slice() == key);
             if (twice || !there) && size <= page.room {
                 let key = key.to_vec(random.heap)?;
-                page.pairs.push(Pair { key, value })?;
+                page.pairs.push(Entry { key, value })?;
                 page.room = page.room.saturating_sub(size);
             }
             return Ok(());
@@ -195,24 +183,11 @@ fn packed(random: &mut Random, page: &Page) -> [u8; BLOCK] {
             *byte = random.byte();
         }
     }
-    put_number(&mut bytes, 0, page.pairs.len().saturating_mul(2));
-    let mut end = BLOCK;
-    let mut at = 2usize;
+    let mut packer = Packer::new(bytes);
     for pair in page.pairs.iter() {
-        for part in [pair.key.as_slice(), pair.value.as_slice()] {
-            end = end.saturating_sub(part.len());
-            put_bytes(&mut bytes, end, part);
-            put_number(&mut bytes, at, end);
-            at = at.saturating_add(2);
-        }
+        packer.add(pair.key.as_slice(), pair.value.as_slice());
     }
-    bytes
-}
-
-fn put_bytes(bytes: &mut [u8; BLOCK], at: usize, part: &[u8]) {
-    if let Some(to) = bytes.get_mut(at..at.saturating_add(part.len())) {
-        to.copy_from_slice(part);
-    }
+    packer.bytes
 }
 
 // Does something to a page that mostly leaves it not good: another count, another offset, other bytes, a key twice, or

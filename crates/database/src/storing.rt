@@ -6,7 +6,7 @@ ghost use Rattle.calls.specs.declared.Mode.TheVariants.{Replace};
 ghost use Rattle.contents.specs.Blocks.{bits_in, blocks_of};
 ghost use Rattle.devices.specs.Trace.{Did, Trace};
 ghost use Rattle.directory.specs.Ending.{leaf_of};
-ghost use Rattle.keys.specs.Hash.{hash};
+ghost use Rattle.keys.specs.Hash.{hash as Hashed};
 ghost use Rattle.lookup.specs.Made.{Made};
 ghost use Rattle.page_edits.specs.Edit.{with_pair};
 ghost use Rattle.page_edits.specs.Write.{Fits};
@@ -47,7 +47,7 @@ impl<D: Device> Database<D> {
         self.device.read(home, &mut block)?;
         let page = good_page(&block, home)?;
         let splits = decide(&page, &leaf, key, value, mode)?;
-        self.change(&page, &leaf, &directory, key, value, splits)
+        self.change(&page, &leaf, &directory, hash, key, value, splits)
     }
 
     // Stores a record's code, whatever value the key has.
@@ -68,19 +68,28 @@ impl<D: Device> Database<D> {
         page: &PairPage,
         leaf: &Leaf,
         directory: &[u8; BLOCK],
+        hash: u32,
         key: &[u8],
         value: &[u8],
         splits: u32,
     ) -> Result<(), Fault>
-        requires leaf { leaf.now ≡ leaf_of (bits_in (blocks_of (D.Device.meaning self.old.device))) (hash key.now) }
+        requires leaf { leaf.now ≡ leaf_of (bits_in (blocks_of (D.Device.meaning self.old.device))) (Hashed key.now) }
         requires page { bytes_of page.now.good ≡ home_bytes (blocks_of (D.Device.meaning self.old.device)) key.now }
         requires directory { leaf.now.depth < 15 → directory.now ≡ blocks_of (D.Device.meaning self.old.device) (leaf.now.index / 8192) }
         requires plan { plan (pairs_of (bytes_of page.now.good)) key.now value.now leaf.now.depth ≡ Some splits }
         requires named { 0 < length key.now }
-        ensures { Made D.Device.steps D.Device.meaning self.old.device (λ blocks. change_calls blocks key.now value.now splits) (λ blocks. bits_clear (bits_in blocks) (hash key.now) (home_depth blocks key.now) splits) result self.new.device }
+        requires hash { hash ≡ Hashed key.now }
+        ensures { Made D.Device.steps D.Device.meaning self.old.device (λ blocks. change_calls blocks key.now value.now splits) (λ blocks. bits_clear (bits_in blocks) (Hashed key.now) (home_depth blocks key.now) splits) result self.new.device }
     {
-        self.make_room(page, way_to(hash_of(key), leaf.depth), splits, directory)?;
-        put_pair(&mut self.device, page, key, value, leaf.depth + splits)
+        self.make_room(page, way_to(hash, leaf.depth), splits, directory)?;
+        put_pair(
+            &mut self.device,
+            page,
+            hash,
+            key,
+            value,
+            leaf.depth + splits,
+        )
     }
 
     // Claims the home page, and makes the splits; nearly always there is none.
@@ -156,15 +165,17 @@ fn way_to(hash: u32, depth: u32) -> Way
 fn put_pair<D: Device>(
     device: &mut D,
     page: &PairPage,
+    hash: u32,
     key: &[u8],
     value: &[u8],
     depth: u32,
 ) -> Result<(), Fault>
+    requires hash { hash ≡ Hashed key.now }
     requires deep { depth ≤ 15 }
     requires fits { Fits (with_pair (others (pairs_of (bytes_of page.now.good)) key.now depth) key.now value.now) }
     ensures { Trace (Did D.Device.steps D.Device.meaning) device.old (last_write (pairs_of (bytes_of page.now.good)) key.now value.now depth ∷ []) (Ok tt) result device.new }
 {
-    let low = low_bits(hash_of(key), depth);
+    let low = low_bits(hash, depth);
     let mut rest = [0; BLOCK];
     replace(page, key, value, depth, low, &mut rest)?;
     device.write(DIRECTORY_BLOCKS + low, &rest)

@@ -43,7 +43,7 @@ make_room-requires-clause-directory g c = λ above.
     ap (λ (l : Leaf). l.index) c.requires.leaf
     ∙ index_on_way bits h
     ∙ ap (node h) (sym (c.way_to.ensures.1 ∙ depth))
-    ∙ ap (λ (k : ℕ). node k c.way_to.result.depth) (sym (c.way_to.ensures.0 ∙ c.hash_of.ensures))
+    ∙ ap (λ (k : ℕ). node k c.way_to.result.depth) (sym (c.way_to.ensures.0 ∙ c.requires.hash))
     ∙ sym c.way_to.result.on in
     c.requires.directory (omega (arith, c.way_to.ensures.1)) ∙ ap (λ (i : ℕ). blocks (i / 8192)) index
 
@@ -93,7 +93,7 @@ returns-in_err-make_room g c =
     let is : c.from_residual.result ≡ Err f = search rules in
     let own : Result Unit Fault = bits_clear (bits_in blocks) (hash key) (home_depth blocks key) s in
     let pairs : pairs_of (bytes_of c.args.page.now.good) ≡ home_pairs blocks key = ap pairs_of c.requires.page in
-    let h : c.way_to.result.hash ≡ hash key = c.way_to.ensures.0 ∙ c.hash_of.ensures in
+    let h : c.way_to.result.hash ≡ hash key = c.way_to.ensures.0 ∙ c.requires.hash in
     let t : c.way_to.result.depth ≡ home_depth blocks key = c.way_to.ensures.1 ∙ ap (λ (l : Leaf). l.depth) c.requires.leaf in
     let same = room_of blocks key _ _ _ s pairs h t in
     let room = room_calls blocks (home_pairs blocks key) (hash key) (home_depth blocks key) s in
@@ -117,7 +117,7 @@ returns g c =
     let s = c.args.splits in
     let own : Result Unit Fault = bits_clear (bits_in blocks) (hash key) (home_depth blocks key) s in
     let pairs : pairs_of (bytes_of c.args.page.now.good) ≡ home_pairs blocks key = ap pairs_of c.requires.page in
-    let h : c.way_to.result.hash ≡ hash key = c.way_to.ensures.0 ∙ c.hash_of.ensures in
+    let h : c.way_to.result.hash ≡ hash key = c.way_to.ensures.0 ∙ c.requires.hash in
     let depth : c.args.leaf.now.depth ≡ home_depth blocks key = ap (λ (l : Leaf). l.depth) c.requires.leaf in
     let t : c.way_to.result.depth ≡ home_depth blocks key = c.way_to.ensures.1 ∙ depth in
     let same = room_of blocks key _ _ _ s pairs h t in

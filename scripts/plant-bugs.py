@@ -245,9 +245,9 @@ def verdict(said):
     if goal or not error:
         return 'refused', (goal or re.search(r'^fn .*(?:no proof|not proved).*$|.*', said, re.M)).group()
     # Two values that differ are a fact; two steps may only have changed places.
-    differ = DIFFER.search(said, error.start())
-    value = differ and not any(STEP.search(v) for v in differ.groups())
-    return 'refused' if value and not gone else 'unfit', error.group()
+    differ = DIFFER.search(said[error.start():error.start() + 2000])
+    moved = differ and any(STEP.search(v) for v in differ.groups())
+    return 'unfit' if gone or moved else 'refused', error.group()
 
 
 def rename(folder, said):

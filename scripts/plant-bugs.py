@@ -225,7 +225,7 @@ def check(folder, crate):
 
 
 GONE = re.compile(r'has no `([\w+-]+)` that can be named from here(?: \(did you mean `([\w+-]+)`)?')
-UNFIT = re.compile(r'that can be named from here|has no field|is not in scope|was not admitted')
+UNFIT = re.compile(r'that can be named from here|has no field|is not in scope|was not admitted|replace that `_`')
 FALSE = re.compile(r'^note: \S+: it is not proved .*is false.*$', re.M)
 OPEN = re.compile(r'^note: \S+: it is not proved .*$', re.M)
 ERROR = re.compile(r'^\S+: error\b.*$', re.M)

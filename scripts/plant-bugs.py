@@ -225,7 +225,7 @@ def check(folder, crate):
 
 
 GONE = re.compile(r'has no `([\w+-]+)` that can be named from here(?: \(did you mean `([\w+-]+)`)?')
-UNFIT = re.compile(r'that can be named from here|has no field|is not in scope|was not admitted')
+UNFIT = re.compile(r'that can be named from here|has no field|is not in scope|was not admitted|replace that `_`')
 FALSE = re.compile(r'^note: \S+: it is not proved .*is false.*$', re.M)
 OPEN = re.compile(r'^note: \S+: it is not proved .*$', re.M)
 ERROR = re.compile(r'^\S+: error\b.*$', re.M)
@@ -245,9 +245,9 @@ def verdict(said):
     if goal or not error:
         return 'refused', (goal or re.search(r'^fn .*(?:no proof|not proved).*$|.*', said, re.M)).group()
     # Two values that differ are a fact; two steps may only have changed places.
-    differ = DIFFER.search(said, error.start())
-    value = differ and not any(STEP.search(v) for v in differ.groups())
-    return 'refused' if value and not gone else 'unfit', error.group()
+    differ = DIFFER.search(said[error.start():error.start() + 2000])
+    moved = differ and any(STEP.search(v) for v in differ.groups())
+    return 'unfit' if gone or moved else 'refused', error.group()
 
 
 def rename(folder, said):

@@ -175,7 +175,8 @@ def edits(text, kin, enums):
                     yield name, a, d, text[c:d] + text[b:c] + text[a:b]
         for block in statements(plain, start, end):
             # The value of a body is no statement.
-            block = [(a, b) for a, b in block if not re.match(r'\s*\}$', plain[b:end]) or plain[a:b].strip().endswith(';') or '->' not in head]
+            block = [(a, b) for a, b in block
+                     if '->' not in head or text[a:b].strip().endswith(';') or not re.match(r'\s*\}$', plain[b:end])]
             for a, b in block:
                 if not re.match(r'\s*let\b', plain[a:b]):
                     yield name, a, b, ''

@@ -1,7 +1,7 @@
 // Bits of the directory that are set under clear ones.
-use plain_model::blocks::Numbered;
-use plain_model::random::Random;
-use plain_model::tree::{BLOCK_BITS, hash_of, set_bit, under};
+use crate::model::blocks::Numbered;
+use crate::model::tree::{BLOCK_BITS, hash_of, set_bit, under};
+use crate::random::Random;
 
 // Sets some bits on the ways of keys, at any depth, in the blocks of a database.
 pub fn set_bits_below(random: &mut Random, blocks: &mut [Numbered], keys: &[Vec<u8>]) {

@@ -1,9 +1,9 @@
 // The devices at the bottom of a stack.
+use crate::model::blocks::{BLOCK, Numbered, put_bytes};
+use crate::model::tree::PAGES;
+use crate::random::Random;
 use devices::Device;
 use flat::Flat;
-use plain_model::blocks::{BLOCK, Numbered, put_bytes};
-use plain_model::random::Random;
-use plain_model::tree::PAGES;
 use slotted::Slotted;
 use std::alloc::{AllocError, Global};
 
@@ -22,7 +22,7 @@ pub trait Bottom: Device + Drop {
     // Databases that do not start blank have pages below this number.
     fn pages() -> u32;
 
-    // An image with these blocks, and room for others.
+    // An image with these blocks, and room for others. A stale one has other bytes there.
     fn image(random: &mut Random, blocks: &[Numbered]) -> Result<Image, AllocError>;
 
     // The device on an image.
@@ -58,7 +58,7 @@ impl Bottom for Flat {
         let mut bytes = vec![in random.heap; 0u8; BLOCK.saturating_mul(limit as usize)]?;
         for block in blocks {
             let at = BLOCK.saturating_mul(block.number as usize);
-            put_bytes(bytes.as_mut_slice(), at, &block.bytes);
+            put_bytes(bytes.as_mut_slice(), at, &block.first_bytes());
         }
         if random.one_in(3) {
             let part = random.bytes(500)?;
@@ -97,7 +97,7 @@ impl Bottom for Slotted {
         for block in blocks {
             bytes.extend_from_slice(b"SD")?;
             bytes.extend_from_slice(&block.number.to_le_bytes())?;
-            bytes.extend_from_slice(&block.bytes)?;
+            bytes.extend_from_slice(&block.first_bytes())?;
             held.push(block.number)?;
         }
         let left = match random.below(8) {

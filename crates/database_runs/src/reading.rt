@@ -1,11 +1,10 @@
 // Calls that read, on a database and on the model, and what they answer and leave, side by side.
-use crate::blocks::BLOCK;
-use crate::decoding::Plain;
-use crate::model::Model;
-use crate::packing::{Entry, at_place};
-use crate::random::Random;
-use crate::tally::{Tally, count};
-use crate::tree::DIRECTORY_BLOCKS;
+use crate::bench::{Bench, Stop};
+use crate::model::blocks::BLOCK;
+use crate::model::decoding::Plain;
+use crate::model::packing::{Entry, at_place};
+use crate::model::tree::DIRECTORY_BLOCKS;
+use crate::tally::count;
 use crate::watched::Watched;
 use database::{Database, Position, Stepped};
 use devices::Device;
@@ -13,35 +12,12 @@ use faults::{Fault, Refusal};
 use pages::Place;
 use std::alloc::{AllocError, Global};
 use std::fmt::Debug;
-use std::io;
-use thiserror::Error;
-
-// Why the runs stop early.
-#[derive(Debug, Drop, Error)]
-pub enum Stop {
-    #[error("no memory")]
-    Memory(#[from(alloc)] AllocError),
-    #[error(transparent)]
-    Output(#[from] io::Error),
-    #[error("{0}")]
-    Differs(String),
-}
 
 // What a step answered, and its buffer.
 #[derive(Drop)]
 pub struct Stride {
     pub answer: Result<Stepped, Fault>,
     page: Vec<u8>,
-}
-
-// What a run needs besides the device.
-#[derive(Drop)]
-pub struct Bench {
-    pub heap: Global,
-    pub random: Random,
-    pub model: Model,
-    pub keys: Vec<Vec<u8>>,
-    pub tally: Tally,
 }
 
 impl Bench {
@@ -112,8 +88,8 @@ impl Bench {
         let wanted = self
             .model
             .fetch(key.as_slice(), wanted_bytes.as_mut_slice());
-        count(&mut self.tally.fetches);
-        self.tally.count(wanted.map(|place| place.is_some()));
+        count(&mut self.reads.fetches);
+        self.reads.count(wanted.map(|place| place.is_some()));
         self.same("the answer of a fetch", &got, &wanted)?;
         self.same_effects(device, got_bytes.as_slice(), wanted_bytes.as_slice())
     }
@@ -129,8 +105,8 @@ impl Bench {
         let wanted = self
             .model
             .get::<R>(key.as_slice(), wanted_bytes.as_mut_slice());
-        count(&mut self.tally.gets);
-        self.tally.count(wanted.map(|record| record.is_some()));
+        count(&mut self.reads.gets);
+        self.reads.count(wanted.map(|record| record.is_some()));
         self.same("the answer of a get", &got, &wanted)?;
         self.same_effects(device, got_bytes.as_slice(), wanted_bytes.as_slice())
     }
@@ -144,8 +120,8 @@ impl Bench {
         let mut database = Database::new(&mut *device);
         let got = database.step(at, got_bytes.as_mut_slice());
         let wanted = self.model.step(at, wanted_bytes.as_mut_slice());
-        count(&mut self.tally.steps);
-        self.tally
+        count(&mut self.reads.steps);
+        self.reads
             .count(wanted.map(|answer| answer != Stepped::End));
         self.same("the answer of a step", &got, &wanted)?;
         self.same_effects(device, got_bytes.as_slice(), wanted_bytes.as_slice())?;
@@ -178,23 +154,6 @@ impl Bench {
         Ok(shown)
     }
 
-    // Compares answers.
-    pub fn same<T: PartialEq + Debug>(&self, what: &str, got: &T, wanted: &T) -> Result<(), Stop> {
-        if *got == *wanted {
-            return Ok(());
-        }
-        Err(differs(self.heap, what, got, wanted)?)
-    }
-
-    // Compares what was asked of the device.
-    pub fn same_trail<D: Device + Drop>(&self, device: &Watched<D>) -> Result<(), Stop> {
-        self.same(
-            "what the device was asked",
-            &device.trail(),
-            &self.model.trail,
-        )
-    }
-
     // Compares what a call left in the buffer, and what it asked of the device.
     fn same_effects<D: Device + Drop>(
         &self,
@@ -204,15 +163,6 @@ impl Bench {
     ) -> Result<(), Stop> {
         self.same_trail(device)?;
         self.same_bytes("the buffer", got, wanted)
-    }
-
-    // Compares bytes.
-    pub fn same_bytes(&self, what: &str, got: &[u8], wanted: &[u8]) -> Result<(), Stop> {
-        if got == wanted {
-            return Ok(());
-        }
-        let text = format!(in self.heap; "{what} has other bytes")?;
-        Err(Stop::Differs(text))
     }
 }
 
@@ -231,15 +181,4 @@ fn entry(heap: Global, page: &[u8], key: Place, value: Place) -> Result<Entry, A
 fn page_after(fault: Fault, at: Position) -> Option<u32> {
     let page = fault.block.checked_sub(DIRECTORY_BLOCKS)?;
     (page >= at.0).then_some(page.saturating_add(1))
-}
-
-// What stops the runs where something differs.
-pub fn differs<T: Debug, U: Debug>(
-    heap: Global,
-    what: &str,
-    got: &T,
-    wanted: &U,
-) -> Result<Stop, AllocError> {
-    let text = format!(in heap; "{what} is {got:?}, and has to be {wanted:?}")?;
-    Ok(Stop::Differs(text))
 }

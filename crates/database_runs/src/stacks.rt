@@ -1,10 +1,8 @@
 // Stacks of a few layers over a device, on which blocks are written at every height, and the runs on them.
-use crate::runs::{run, write_stale};
+use crate::bench::{Bench, Stop};
+use crate::random::Random;
 use cache::Cache;
 use devices::Device;
-use faults::Layer;
-use plain_model::random::Random;
-use plain_model::runs::{Bench, Stop};
 use quota::Quota;
 use std::alloc::AllocError;
 use std::marker::PhantomData;
@@ -23,7 +21,7 @@ impl Plan {
     fn random(random: &mut Random) -> Plan {
         match random.below(3) {
             0 => Plan::Cache,
-            1 => Plan::Quota(random.below(4)),
+            1 => Plan::Quota(random_remainder(random)),
             _ => Plan::Window {
                 base: random.below(6),
                 length: random_length(random),
@@ -40,12 +38,22 @@ impl Plan {
     }
 }
 
-// A window's length: seldom so short that it cuts a database.
+// How many claims a quota lets pass.
+fn random_remainder(random: &mut Random) -> u32 {
+    match random.below(4) {
+        0 => random.below(4),
+        1 => random.below(30),
+        _ => u32::MAX,
+    }
+}
+
+// A window's length: not often so short that it cuts a database.
 fn random_length(random: &mut Random) -> u32 {
-    match random.below(12) {
-        0 => random.below(60),
-        1 => random.below(6),
-        2 => 32_772,
+    match random.below(10) {
+        0 => random.below(8),
+        1..=2 => random.below(60),
+        3 => random.below(1200),
+        4 => 32_772,
         _ => u32::MAX,
     }
 }
@@ -79,29 +87,28 @@ pub struct Above<H>(PhantomData<H>);
 impl Height for Ground {
     fn grow<D: Device + Drop>(bench: &mut Bench, _plans: &[Plan], below: D) -> Result<(), Stop> {
         let mut device = below;
-        write_stale(bench, &mut device, 1)?;
-        bench.model.open();
-        run(bench, device)
+        bench.write_stale(&mut device, 1)?;
+        bench.run(device)
     }
 }
 
 impl<H: Height> Height for Above<H> {
     fn grow<D: Device + Drop>(bench: &mut Bench, plans: &[Plan], below: D) -> Result<(), Stop> {
         let mut device = below;
-        write_stale(bench, &mut device, 4)?;
+        bench.write_stale(&mut device, 4)?;
         // By kind: each makes a device of another type, which no one value could hold.
         match plans {
             [] => Ground::grow(bench, plans, device),
             [Plan::Cache, rest @ ..] => {
-                bench.model.layer = Layer::Cache;
+                bench.add_cache();
                 H::grow(bench, rest, Cache::new(device))
             }
             [Plan::Quota(remainder), rest @ ..] => {
-                bench.model.layer = Layer::Quota;
+                bench.add_quota(*remainder)?;
                 H::grow(bench, rest, Quota::new(device, *remainder))
             }
             [Plan::Window { base, length }, rest @ ..] => {
-                bench.model.add_window(*base, *length);
+                bench.add_window(*base, *length)?;
                 H::grow(bench, rest, Window::new(device, *base, *length))
             }
         }

@@ -1,5 +1,5 @@
 // A device that notes which calls are made on it.
-use crate::trail::Trail;
+use crate::model::trail::Trail;
 use devices::Device;
 use faults::Fault;
 

@@ -1,7 +1,7 @@
 // The model's claims and writes: which numbers are held, and how many more may be claimed.
+use crate::model::Model;
+use crate::model::blocks::{BLOCK, Numbered};
 use faults::{Fault, Layer, Refusal};
-use plain_model::blocks::{BLOCK, Numbered};
-use plain_model::model::Model;
 use std::alloc::{AllocError, Global};
 use thiserror::Error;
 
@@ -76,7 +76,7 @@ impl Claims {
         Ok(())
     }
 
-    // Puts a window on top.
+    // Puts a window on top. Stale blocks that it cuts off stay as they are in the image.
     pub fn add_window(
         &mut self,
         model: &mut Model,
@@ -86,8 +86,11 @@ impl Claims {
         let limit = length.min(model.limit.saturating_sub(base));
         for block in model.blocks.iter() {
             if block.number < base || block.number.saturating_sub(base) >= limit {
-                let number = block.number.saturating_add(self.base);
-                self.outside.push(Numbered { number, ..*block })?;
+                self.outside.push(Numbered {
+                    number: block.number.saturating_add(self.base),
+                    bytes: block.first_bytes(),
+                    stale: false,
+                })?;
             }
         }
         model.add_window(base, length);

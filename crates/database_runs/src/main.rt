@@ -1,36 +1,42 @@
 // Long random lists of calls of databases, on random stacks, beside a plain model.
 #![tactic(auto)]
 
+mod bench;
 mod bottoms;
 mod choices;
-mod claims;
 mod damage;
+mod databases;
+mod model;
+mod random;
+mod reading;
 mod runs;
 mod stacks;
-mod storing;
 mod tally;
+mod watched;
+mod writing;
 
+use bench::{Bench, Stop};
 use bottoms::{Bottom, Image};
 use choices::add_keys;
-use claims::Claims;
 use damage::set_bits_below;
+use databases::{Made, State, random_database};
 use flat::Flat;
-use plain_model::blocks::{BLOCK, Numbered};
-use plain_model::databases::{Made, State, random_database};
-use plain_model::model::Model;
-use plain_model::random::Random;
-use plain_model::runs::{Bench as Reads, Stop};
-use plain_model::tally::{Tally as ReadTally, count};
-use runs::Bench;
+use model::Model;
+use model::blocks::{BLOCK, Numbered};
+use model::claims::Claims;
+use random::Random;
 use slotted::Slotted;
 use stacks::{Height, Highest, Plan, base_of, random_stack};
 use std::alloc::AllocError;
-use tally::Tally;
+use tally::count;
 
 // How many databases of each start are run, each on a stack of its own, and how often the stack is made anew on the bottom.
-const DATABASES: u32 = 8;
+const DATABASES: u32 = 50;
 
 const ROUNDS: u32 = 2;
+
+// So many blocks of a database are stale at most: more than a cache has frames.
+const MOST_STALE: u32 = 12;
 
 // What a database is like at first.
 #[derive(Clone, Copy, Debug)]
@@ -67,8 +73,8 @@ fn main(rt: HostRuntime) -> anyhow::Result<()> {
         splits,
         most_splits,
     } = sums;
-    if matches!(&outcome, Err(Stop::Differs(_))) {
-        println!(rt; "a difference in database {databases}, list {lists}, call {calls}")?;
+    if let Err(Stop::Differs(text)) = &outcome {
+        println!(rt; "a difference in database {databases}, list {lists}, call {calls}: {text}")?;
     }
     outcome?;
     println!(rt;
@@ -89,25 +95,14 @@ fn run_all(rt: &HostRuntime, sums: &mut Sums) -> Result<(), Stop> {
 // Runs databases of a start over one kind of bottom, and tells how it went.
 fn run_start<B: Bottom>(rt: &HostRuntime, start: Start, sums: &mut Sums) -> Result<(), Stop> {
     let heap = rt.alloc();
-    let mut bench = Bench {
-        reads: Reads {
-            heap,
-            random: Random::new(
-                heap,
-                sums.databases.wrapping_mul(0x9e37_79b9).wrapping_add(29),
-            ),
-            model: Model::new(0, Vec::new(heap)),
-            keys: Vec::new(heap),
-            tally: ReadTally::default(),
-        },
-        claims: Claims::new(heap, Vec::new(heap), 0),
-        list: None,
-        tally: Tally::default(),
-    };
+    let mut bench = Bench::new(
+        heap,
+        sums.databases.wrapping_mul(0x9e37_79b9).wrapping_add(29),
+    );
     let outcome = run_databases::<B>(&mut bench, start, sums);
     let name = B::name();
-    let writes = bench.tally;
-    let reads = bench.reads.tally;
+    let writes = bench.writes;
+    let reads = bench.reads;
     println!(rt; "{name}, {start:?}: {writes}")?;
     println!(rt; "{name}, {start:?}: {reads}")?;
     sums.calls = sums
@@ -129,18 +124,19 @@ fn run_databases<B: Bottom>(bench: &mut Bench, start: Start, sums: &mut Sums) ->
 
 // Runs a database on a stack, which is made anew in each round. Where the stack has windows, it lies behind other blocks.
 fn run_database<B: Bottom>(bench: &mut Bench, start: Start, sums: &mut Sums) -> Result<(), Stop> {
-    let heap = bench.reads.heap;
-    let plans = random_stack(&mut bench.reads.random)?;
-    let Made { mut blocks, keys } = first_database(&mut bench.reads.random, start, B::pages())?;
-    bench.reads.keys = keys;
+    let heap = bench.heap;
+    let plans = random_stack(&mut bench.random)?;
+    let Made { mut blocks, keys } = first_database(&mut bench.random, start, B::pages())?;
+    bench.keys = keys;
+    make_stale(&mut bench.random, blocks.as_mut_slice());
     move_behind(&mut blocks, base_of(plans.as_slice()))?;
     let Image {
         mut bytes,
         limit,
         held,
         left,
-    } = B::image(&mut bench.reads.random, blocks.as_slice())?;
-    bench.reads.model = Model::new(limit, blocks);
+    } = B::image(&mut bench.random, blocks.as_slice())?;
+    bench.model = Model::new(limit, blocks);
     bench.claims = Claims::new(heap, held, left);
     bench.list = match start {
         Start::Blank => Some(Vec::new(heap)),
@@ -159,7 +155,7 @@ fn run_round<B: Bottom>(
     plans: &[Plan],
     image: Vec<u8>,
 ) -> Result<Vec<u8>, Stop> {
-    let mut bottom = B::open(bench.reads.heap, image)?;
+    let mut bottom = B::open(bench.heap, image)?;
     Highest::grow(bench, plans, &mut bottom)?;
     bench.same_bottom(&mut bottom)?;
     Ok(bottom.close())
@@ -179,6 +175,17 @@ fn first_database(random: &mut Random, start: Start, pages: u32) -> Result<Made,
         set_bits_below(random, made.blocks.as_mut_slice(), made.keys.as_slice());
     }
     Ok(made)
+}
+
+// Makes some blocks stale.
+fn make_stale(random: &mut Random, blocks: &mut [Numbered]) {
+    let count = u32::try_from(blocks.len()).unwrap_or(0);
+    for _ in 0..random.below(MOST_STALE.saturating_add(1)) {
+        let place = random.below(count) as usize;
+        if let Some(block) = blocks.get_mut(place) {
+            block.stale = true;
+        }
+    }
 }
 
 // Moves the blocks to numbers from a base on, behind others.

@@ -1,11 +1,11 @@
 // What a store and a delete ask of the model and answer.
-use crate::claims::{Claims, Failure};
+use crate::model::blocks::BLOCK;
+use crate::model::claims::{Claims, Failure};
+use crate::model::packing::Packer;
+use crate::model::tree::{BLOCK_BITS, DEPTH, DIRECTORY_BLOCKS, Leaf, hash_of, low, set_bit};
+use crate::model::{Model, Page};
 use calls::Mode;
 use faults::{Fault, Layer, Refusal};
-use plain_model::blocks::BLOCK;
-use plain_model::model::{Model, Page};
-use plain_model::packing::Packer;
-use plain_model::tree::{BLOCK_BITS, DEPTH, DIRECTORY_BLOCKS, Leaf, hash_of, low, set_bit};
 
 // A key and its value may not be longer.
 const LONGEST_PAIR: usize = 1008;

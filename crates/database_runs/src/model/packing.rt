@@ -1,5 +1,5 @@
 // The pairs of a page, and a page of pairs.
-use crate::blocks::{BLOCK, number_at, put_bytes, put_number};
+use crate::model::blocks::{BLOCK, number_at, put_bytes, put_number};
 use pages::Place;
 
 // The pairs of a page have at most so many places.

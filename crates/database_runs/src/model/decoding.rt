@@ -1,5 +1,5 @@
 // The record kinds, decoded anew.
-use crate::blocks::byte_at;
+use crate::model::blocks::byte_at;
 use records::{Member, Record, Sort, Symbol};
 
 // A kind of record, decoded plainly.

@@ -1,8 +1,8 @@
 // Random databases: their blocks, and the keys that were put on their pages.
-use crate::blocks::{BLOCK, Numbered, number_at, put_byte, put_number};
-use crate::packing::{Entry, Packer};
+use crate::model::blocks::{BLOCK, Numbered, number_at, put_byte, put_number};
+use crate::model::packing::{Entry, Packer};
+use crate::model::tree::{DIRECTORY, DIRECTORY_BLOCKS, hash_of, home_of, set_bit, under};
 use crate::random::Random;
-use crate::tree::{DIRECTORY, DIRECTORY_BLOCKS, hash_of, home_of, set_bit, under};
 use std::alloc::AllocError;
 
 // What a database is like: every pair at home, strays among them, or bytes changed anywhere.

@@ -1,7 +1,7 @@
 // The directory, and where the lookup of a hash in it ends.
 ghost use Rattle.std.specs.Prelude.{◌<◌};
 
-use crate::blocks::{byte_at, put_byte};
+use crate::model::blocks::{byte_at, put_byte};
 
 // What the format gives: how many blocks and bytes the directory has, how many bits a block of it, how many bits count, how
 // deep a lookup goes, and how many pages there are.

@@ -1,10 +1,18 @@
 // A plain model of a database on a stack of devices: the blocks that the stack shows, and what each call that reads answers of
 // them.
-use crate::blocks::{BLOCK, Numbered, put_bytes};
-use crate::decoding::Plain;
-use crate::packing::{Pair, Pairs, pairs_of};
-use crate::trail::Trail;
-use crate::tree::{
+pub mod blocks;
+pub mod claims;
+pub mod decoding;
+pub mod packing;
+pub mod storing;
+pub mod trail;
+pub mod tree;
+
+use crate::model::blocks::{BLOCK, Numbered, put_bytes};
+use crate::model::decoding::Plain;
+use crate::model::packing::{Pair, Pairs, pairs_of};
+use crate::model::trail::Trail;
+use crate::model::tree::{
     BLOCK_BITS, DEPTH, DIRECTORY, DIRECTORY_BLOCKS, Leaf, PAGES, hash_of, home_of, is_set, low,
     under,
 };

@@ -1,6 +1,6 @@
 // Random keys, values and records: keys whose hashes agree in many low bits, short and long ones; and values of every length.
-use plain_model::random::Random;
-use plain_model::tree::hash_of;
+use crate::model::tree::hash_of;
+use crate::random::Random;
 use records::{Member, Record, Sort, Symbol};
 use std::alloc::{AllocError, Global};
 

@@ -11,6 +11,17 @@ pub struct Numbered {
     pub stale: bool,
 }
 
+impl Numbered {
+    // What an image has for it at first.
+    pub fn first_bytes(&self) -> [u8; BLOCK] {
+        if self.stale {
+            [0xa5; BLOCK]
+        } else {
+            self.bytes
+        }
+    }
+}
+
 // The 16-bit number at a byte, low byte first.
 pub fn number_at(bytes: &[u8], at: usize) -> usize {
     let low = byte_at(bytes, at);

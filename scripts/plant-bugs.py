@@ -258,7 +258,7 @@ def rename(folder, said):
     parts = [(o, n) for o, n in zip(old, new) if o != n]
     if len(old) != len(new) or len(parts) != 1:
         return {}
-    file = folder / re.match(r'(\S+?):\d', said[said.rindex('\n', 0, gone.start()) + 1:]).group(1)
+    file = folder / re.match(r'(\S+?):\d', said[said.rfind('\n', 0, gone.start()) + 1:]).group(1)
     texts = {proof: proof.read_text() for proof in file.parent.glob('*.antt')}
     for proof, text in texts.items():
         proof.write_text(re.sub(rf'(?<=-){parts[0][0]}(?![\w])', parts[0][1], text))

@@ -10,6 +10,8 @@ mod fetches;
 #[cfg(test)]
 mod gets;
 #[cfg(test)]
+mod lists;
+#[cfg(test)]
 mod lookups;
 #[cfg(test)]
 mod puts;

@@ -1,10 +1,10 @@
 #!/usr/bin/env python3
-"""Plants bugs in a crate's code, one at a time, and says what the prover makes of each.
+"""Plants bugs in a crate's code, and says what the prover makes of each.
 
-    scripts/plant-bugs.py CRATE START COUNT [--only WORD] [--scratch FOLDER] [--list]
+    scripts/plant-bugs.py CRATE START COUNT [--only WORD] [--together N] [--scratch FOLDER] [--list]
 
 Run it at the top of the repository, where CRATE is proved. It works on a copy, picks COUNT of the edits of function bodies
-that it knows by random numbers from START, and runs `rt check` after each. The same START and COUNT give the same edits.
+that it knows by random numbers from START, and runs `rt check` on them. The same START and COUNT give the same edits.
 
     refused    the edited code is not proved: a fact fails, or a promise is left open
     unfit      a proof file does not fit the edited code: it names a step that is gone, or answers a goal that is not there
@@ -14,11 +14,17 @@ that it knows by random numbers from START, and runs `rt check` after each. The 
 Where a proof file names a step that only got another name from the edit, the name is changed in the copy and the check made again,
 so that fewer edits are unfit; `(renamed)` marks those.
 
---only WORD     the edits of lines and functions with this word alone
+A function is proved from the contracts of those that it calls, and the prover tells of each function by itself. So up to N edits
+(8 unless said), each of another function, are checked at once. Where that does not tell enough of one, as where the function that it
+calls has a bug too, or where nothing was refused, it is checked again alone.
+
+--only WORD      the edits of lines and functions with this word alone
+--together N     so many edits in one check
 --scratch FOLDER keeps the copy and the logs there; a later run takes the verdict of an edit from its log
---list          prints the edits and checks none
+--list           prints the edits and checks none
 """
 import argparse
+import dataclasses
 import hashlib
 import pathlib
 import random
@@ -54,8 +60,18 @@ def closing(text, at):
     raise ValueError('a bracket is never closed')
 
 
+@dataclasses.dataclass(frozen=True)
+class Function:
+    """A function with a body: where it begins, its name, its head, and where its body stands. Clauses belong to neither."""
+    at: int
+    name: str
+    head: str
+    start: int
+    end: int
+
+
 def functions(text):
-    """(name, head, start, end) of each function with a body: its clauses belong to neither."""
+    """The functions with a body."""
     for m in re.finditer(r'\bfn (\w+)', text):
         at = m.end()
         head_end = None
@@ -66,7 +82,7 @@ def functions(text):
                 end = closing(text, at)
                 head_end = head_end or at
                 if not re.search(r'\b(requires|ensures)(\s+\w+)?\s*$', text[m.end():at]):
-                    yield m.group(1), text[m.end():head_end], at, end + 1
+                    yield Function(m.start(), m.group(1), text[m.end():head_end], at, end + 1)
                     break
                 at = end
             at += 1
@@ -117,8 +133,8 @@ def statements(text, start, end):
 def alike(text):
     """What may stand for what: calls with the same signature, and fields of one type in one struct."""
     kin = {}
-    for name, head, _, _ in functions(text):
-        kin.setdefault(' '.join(head.split()), set()).add(name)
+    for f in functions(text):
+        kin.setdefault(' '.join(f.head.split()), set()).add(f.name)
     for m in re.finditer(r'\bstruct \w+[^;{]*\{([^}]*)\}', text):
         for field, kind in re.findall(r'(\w+): ([^,\n]+),', m.group(1)):
             kin.setdefault((m.start(), kind), set()).add(field)
@@ -137,80 +153,122 @@ def variants(texts):
 def edits(text, kin, enums):
     """(function, start, end, new text) of each edit of the bodies."""
     plain = blanked(text)
-    for name, head, start, end in functions(plain):
-        body = plain[start:end]
+    for f in functions(plain):
+        head, start, end, body = f.head, f.start, f.end, plain[f.start:f.end]
 
         def each(pattern):
             return ((start + m.start(), start + m.end(), m) for m in re.finditer(pattern, body))
 
         for a, b, m in each(OPERATOR):
             for new in SWAPS[m.group()]:
-                yield name, a, b, new
+                yield f, a, b, new
         for a, b, m in each(NUMBER):
             n = int(m.group().replace('_', ''))
-            yield name, a, b, str(n + 1)
+            yield f, a, b, str(n + 1)
             if n > 0:
-                yield name, a, b, str(n - 1)
+                yield f, a, b, str(n - 1)
         for a, b, m in each(CONSTANT):
-            yield name, a, b, f'({m.group()} + 1)'
-            yield name, a, b, f'({m.group()} - 1)'
+            yield f, a, b, f'({m.group()} + 1)'
+            yield f, a, b, f'({m.group()} - 1)'
         for a, b, m in each(r'\b(?:true|false)\b'):
-            yield name, a, b, {'true': 'false', 'false': 'true'}[m.group()]
+            yield f, a, b, {'true': 'false', 'false': 'true'}[m.group()]
         for a, b, m in each(r'\bif (?!let )([^\n{}]+) \{'):
-            yield name, start + m.start(1), start + m.end(1), f'!({text[start + m.start(1):start + m.end(1)]})'
+            yield f, start + m.start(1), start + m.end(1), f'!({text[start + m.start(1):start + m.end(1)]})'
         for a, b, m in each(r'(?<=[^\s.{}])\?;\n'):
             line = plain.rindex('\n', 0, a) + 1
             if not re.match(r' *let\b', plain[line:a]):
-                yield name, line, b, re.sub(r'\S', lambda s: 'let _ = ' + s.group(), text[line:a], count=1) + ';\n'
+                yield f, line, b, re.sub(r'\S', lambda s: 'let _ = ' + s.group(), text[line:a], count=1) + ';\n'
         for a, b, m in each(r'\bSome\((?![^()]*\) =)'):
-            yield name, a, closing(plain, b - 1) + 1, 'None'
+            yield f, a, closing(plain, b - 1) + 1, 'None'
         if head.endswith('-> Result<(), Fault> '):
             for a, b, m in each(r'(?<=\n)( +(?:return )?)\(*[a-z*][\w.*()]*\([^\n]*\)(?=;?\n)'):
                 if 'return' in m.group(1) or re.match(r'\n *\}$', plain[b:end]):
-                    yield name, start + m.end(1), b, 'Ok(())'
+                    yield f, start + m.end(1), b, 'Ok(())'
         for parts in groups(plain, start, end):
             for (a, b), (c, d) in zip(parts, parts[1:]):
                 alien = text[a].isupper() != text[c].isupper()
                 if text[a:b] != text[c:d] and '\n' not in text[a:d] and not alien:
-                    yield name, a, d, text[c:d] + text[b:c] + text[a:b]
+                    yield f, a, d, text[c:d] + text[b:c] + text[a:b]
         for block in statements(plain, start, end):
             # The value of a body is no statement.
             block = [(a, b) for a, b in block
                      if '->' not in head or text[a:b].strip().endswith(';') or not re.match(r'\s*\}$', plain[b:end])]
             for a, b in block:
                 if not re.match(r'\s*let\b', plain[a:b]):
-                    yield name, a, b, ''
+                    yield f, a, b, ''
             for (a, b), (c, d) in zip(block, block[1:]):
                 if not text[b:c].strip():
-                    yield name, a, d, text[c:d] + text[b:c] + text[a:b]
+                    yield f, a, d, text[c:d] + text[b:c] + text[a:b]
         kinds = {}
         for parameter, kind in re.findall(r'(\w+): ([^,)]+)', head):
             kinds.setdefault(kind, set()).add(parameter)
         for names in kinds.values():
             for a, b, m in each(r'(?<![.\w])(?:' + '|'.join(sorted(names)) + r')\b(?!:)'):
                 for new in sorted(names - {m.group()}):
-                    yield name, a, b, new
+                    yield f, a, b, new
         for names in kin:
             for a, b, m in each(r'(?<=\.)(?:' + '|'.join(sorted(names)) + r')\b'):
                 for new in sorted(names - {m.group()}):
-                    yield name, a, b, new
+                    yield f, a, b, new
         for a, b, m in each(r'\b([A-Z]\w*)::([A-Z]\w*)\b(?!\()'):
             others = enums.get(m.group(1), [])
             if len(others) > 1 and m.group(2) in others:
-                yield name, start + m.start(2), b, others[(others.index(m.group(2)) + 1) % len(others)]
+                yield f, start + m.start(2), b, others[(others.index(m.group(2)) + 1) % len(others)]
+
+
+def path(file, text, function):
+    """A function as the prover names it: its module, its type with the trait, its name."""
+    parts = [p for p in file.with_suffix('').parts[file.parts.index('src') + 1:] if p != 'lib']
+    for m in re.finditer(r'^impl(?:<[^{]*?>)? (?:(\w+)(?:<[^{]*?>)? for )?&?(?:mut )?(\w+)[^{]*\{', text, re.M):
+        if m.end() <= function.at < closing(text, m.end() - 1):
+            parts.append(m.group(2) + (m.group(1) or ''))
+    return [*parts, function.name]
+
+
+def with_all(text, edits):
+    """The text with each of the edits, no two of which touch."""
+    for edit in sorted(edits, key=lambda e: -e.start):
+        text = text[:edit.start] + edit.new + text[edit.end:]
+    return text
+
+
+@dataclasses.dataclass(frozen=True)
+class Edit:
+    """One edit: of which function of which file, and what stands for what."""
+    file: pathlib.Path
+    text: str
+    function: Function
+    start: int
+    end: int
+    new: str
+
+    def alone(self):
+        """The file's text with this edit."""
+        return with_all(self.text, [self])
+
+    def log(self):
+        """The name of the log with what was said of it."""
+        return hashlib.sha256(f'{self.file}\n{self.alone()}'.encode()).hexdigest()[:16]
+
+    def path(self):
+        return path(self.file, self.text, self.function)
+
+    def __str__(self):
+        old, new = (' '.join(t.split()) for t in (self.text[self.start:self.end], self.new))
+        return f'{self.file}:{self.text.count(chr(10), 0, self.start) + 1}: {self.function.name}: {old} -> {new}'
 
 
 def planted(crate, start, count, only):
-    """The edits that are picked, as (file, text, function, start, end, new text)."""
+    """How many edits there are, and those that are picked."""
     sources = {f: f.read_text() for f in sorted(pathlib.Path('crates', crate, 'src').rglob('*.rt'))}
     kin = alike('\n'.join(blanked(t) for t in sources.values()))
     enums = variants(f.read_text() for f in sorted(pathlib.Path('crates').glob('*/src/*.rt')))
     found = []
     for file, text in sources.items():
-        for name, a, b, new in edits(text, kin, enums):
+        for function, a, b, new in edits(text, kin, enums):
             line = text[text.rindex('\n', 0, a) + 1:text.index('\n', a)]
-            if only is None or only in name or only in line:
-                found.append((file, text, name, a, b, new))
+            if only is None or only in function.name or only in line:
+                found.append(Edit(file, text, function, a, b, new))
     random.Random(start).shuffle(found)
     return len(found), found[:count]
 
@@ -218,11 +276,11 @@ def planted(crate, start, count, only):
 def check(folder, crate):
     """What `rt check` says of the crate in the copy."""
     try:
-        run = subprocess.run(['rt', 'check'], cwd=folder / 'crates' / crate, text=True, timeout=900,
+        run = subprocess.run(['rt', 'check'], cwd=folder / 'crates' / crate, text=True, timeout=1800,
                              stdout=subprocess.PIPE, stderr=subprocess.STDOUT)
         return run.stdout
     except subprocess.TimeoutExpired:
-        return 'logic=not-proved\nno answer in 900 s\n'
+        return 'logic=not-proved\nno answer in half an hour\n'
 
 
 GONE = re.compile(r'has no `([\w+-]+)` that can be named from here(?: \(did you mean `([\w+-]+)`)?')
@@ -265,18 +323,76 @@ def rename(folder, said):
     return texts
 
 
-def judged(folder, crate):
-    """What is said of the edited crate, after names of steps that the edit changed have been changed in the proof files too."""
-    said, kept = check(folder, crate), {}
+def part(said, edit, edited):
+    """What is said of the edit's function alone, where its file has further edits; nothing where that does not tell enough."""
+    name = edit.path()
+    status = re.search(rf'^fn \w+::{"::".join(name)}: .*$', said, re.M)
+    if not status or status.group().endswith(': proved'):
+        return None
+    place = next(f for f in functions(blanked(edited)) if path(edit.file, blanked(edited), f) == name)
+    first, last = (edited.count('\n', 0, at) + 1 for at in (place.at, place.end))
+    kept = []
+    for message in re.split(r'\n(?=\S)', said):
+        proof = re.match(rf'\./proofs/(?:fn/)?{"/".join(name)}/', message)
+        line = re.match(rf'(?:note: )?{"/".join(edit.file.parts[2:])}:(\d+):', message)
+        if proof or line and first <= int(line.group(1)) <= last:
+            kept.append(message)
+    return '\n'.join([*kept, status.group(), 'logic=not-proved\n']) if kept else None
+
+
+def misread(said, edit, edited):
+    """Whether the compiler stops within the edit's function."""
+    return '\nlogic=' not in said and part(f'{said}\nfn x::{"::".join(edit.path())}: ', edit, edited) is not None
+
+
+def judged(folder, crate, batch):
+    """What is said of each of these edits, planted together; nothing of one that has to be tried alone, or again with others.
+
+    Names of steps that an edit changed are changed in the proof files too, and the check is made again.
+    """
+    texts = {e.file: e.text for e in batch}
+    edited = {file: with_all(text, [e for e in batch if e.file == file]) for file, text in texts.items()}
+
+    def of(edit, said):
+        return said if len(batch) == 1 else part(said, edit, edited[edit.file])
+
+    for file, text in edited.items():
+        (folder / file).write_text(text)
+    said, kept, renamed = check(folder, crate), {}, set()
     for _ in range(3):
-        texts = rename(folder / 'crates' / crate, said) if verdict(said)[0] == 'unfit' else {}
-        if not texts:
+        changed = {}
+        for edit in batch:
+            mine = of(edit, said)
+            if mine and verdict(mine)[0] == 'unfit':
+                old = rename(folder / 'crates' / crate, mine)
+                changed.update(old)
+                renamed.update([edit] if old else [])
+        if not changed:
             break
-        kept = {**texts, **kept}
+        kept = {**changed, **kept}
         said = check(folder, crate)
-    for proof, text in kept.items():
-        proof.write_text(text)
-    return ('(renamed)\n' if kept else '\n') + said
+    for file, text in [*texts.items(), *kept.items()]:
+        (folder / file).write_text(text)
+    answers = {e: of(e, said) for e in batch}
+    if '\nlogic=' not in said and len(batch) > 1:
+        wrong = [e for e in batch if misread(said, e, edited[e.file])] or batch
+        answers = {e: None for e in wrong}
+    return {e: mine and ('(renamed)\n' if e in renamed else '\n') + mine for e, mine in answers.items()}
+
+
+def tried(folder, crate, edits, together):
+    """Each edit with what is said of it, as it comes."""
+    waiting, alone = list(edits), []
+    while waiting or alone:
+        batch = {}
+        for edit in [alone[0]] if alone else waiting:
+            batch.setdefault(tuple([str(edit.file), *edit.path()]), edit)
+        for edit, said in judged(folder, crate, list(batch.values())[:together]).items():
+            (alone if edit in alone else waiting).remove(edit)
+            if said is None:
+                alone.append(edit)
+            else:
+                yield edit, said
 
 
 def main():
@@ -285,37 +401,37 @@ def main():
     parser.add_argument('start', type=int)
     parser.add_argument('count', type=int)
     parser.add_argument('--only')
+    parser.add_argument('--together', type=int, default=8)
     parser.add_argument('--scratch', type=pathlib.Path)
     parser.add_argument('--list', action='store_true')
     args = parser.parse_args()
     places, picked = planted(args.crate, args.start, args.count, args.only)
     print(f'{args.crate}: {places} edits, {len(picked)} picked from {args.start}', flush=True)
+    if args.list:
+        print('\n'.join(map(str, picked)))
+        return
     folder = args.scratch or pathlib.Path(tempfile.mkdtemp(prefix='planted-bugs.'))
     logs = folder / 'logs'
     logs.mkdir(parents=True, exist_ok=True)
+    counts = dict.fromkeys(['refused', 'unfit', 'invalid', 'accepted'], 0)
+
+    def tell(edit, said):
+        word, why = verdict(said.split('\n', 1)[1])
+        counts[word] += 1
+        print(f'{word:8} {edit}\n         {said.splitlines()[0]} {why[:300]}  [{edit.log()}]', flush=True)
+
     try:
-        if not args.list:
-            shutil.copytree('crates', folder / 'crates', dirs_exist_ok=True, ignore=shutil.ignore_patterns('out'))
-            shutil.copy('crates.txt', folder)
-            if verdict(check(folder, args.crate))[0] != 'accepted':
-                sys.exit(f'plant-bugs: {args.crate} is not proved as it stands')
-        counts = dict.fromkeys(['refused', 'unfit', 'invalid', 'accepted'], 0)
-        for file, text, name, a, b, new in picked:
-            edited = text[:a] + new + text[b:]
-            what = f'{" ".join(text[a:b].split())} -> {" ".join(new.split())}'
-            place = f'{file}:{text.count(chr(10), 0, a) + 1}: {name}: {what}'
-            if args.list:
-                print(place)
-                continue
-            log = logs / hashlib.sha256(f'{file}\n{edited}'.encode()).hexdigest()[:16]
-            if not log.exists():
-                (folder / file).write_text(edited)
-                log.write_text(judged(folder, args.crate))
-                (folder / file).write_text(text)
-            said = log.read_text()
-            word, why = verdict(said.split('\n', 1)[1])
-            counts[word] += 1
-            print(f'{word:8} {place}\n         {said.splitlines()[0]} {why[:300]}  [{log.name}]', flush=True)
+        shutil.copytree('crates', folder / 'crates', dirs_exist_ok=True, ignore=shutil.ignore_patterns('out'))
+        shutil.copy('crates.txt', folder)
+        if verdict(check(folder, args.crate))[0] != 'accepted':
+            sys.exit(f'plant-bugs: {args.crate} is not proved as it stands')
+        fresh = [e for e in picked if not (logs / e.log()).exists()]
+        for edit in picked:
+            if edit not in fresh:
+                tell(edit, (logs / edit.log()).read_text())
+        for edit, said in tried(folder, args.crate, fresh, args.together):
+            (logs / edit.log()).write_text(said)
+            tell(edit, said)
         print(f'{args.crate} {args.start}: {len(picked)} planted, ' + ', '.join(f'{n} {w}' for w, n in counts.items()))
     finally:
         if not args.scratch:

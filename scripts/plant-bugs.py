@@ -303,10 +303,17 @@ def verdict(said):
     goal = wrong or not gone and OPEN.search(said)
     if goal or not error:
         return 'refused', (goal or re.search(r'^fn .*(?:no proof|not proved).*$|.*', said, re.M)).group()
-    # Two values that differ are a fact; two steps may only have changed places.
     differ = DIFFER.search(said[error.start():error.start() + 2000])
-    moved = differ and any(STEP.search(v) for v in differ.groups())
-    return 'unfit' if gone or moved else 'refused', error.group()
+    return 'unfit' if gone or differ and moved(*differ.groups()) else 'refused', error.group()
+
+
+def moved(one, other):
+    """Whether two terms may differ in a step alone, which has changed places; two values of one step that differ are a fact."""
+    if not any(STEP.search(v) for v in (one, other)):
+        return False
+    ones, others = (v.replace('.before', '').split('.') for v in (one, other))
+    apart = [i for i, (a, b) in enumerate(zip(ones, others)) if a != b]
+    return len(ones) != len(others) or len(apart) != 1 or apart[0] < 2 or not all(re.fullmatch(r'[\w.-]+', v) for v in (one, other))
 
 
 def rename(folder, said):

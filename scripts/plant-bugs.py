@@ -303,8 +303,9 @@ def verdict(said):
     goal = wrong or not gone and OPEN.search(said)
     if goal or not error:
         return 'refused', (goal or re.search(r'^fn .*(?:no proof|not proved).*$|.*', said, re.M)).group()
-    differ = DIFFER.search(said[error.start():error.start() + 2000])
-    return 'unfit' if gone or differ and moved(*differ.groups()) else 'refused', error.group()
+    # The terms that differ are told as printed and as computed: one of the two may show that two values do.
+    differ = DIFFER.findall(said[error.start():error.start() + 2000])
+    return 'unfit' if gone or differ and all(moved(*terms) for terms in differ) else 'refused', error.group()
 
 
 def moved(one, other):

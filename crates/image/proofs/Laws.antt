@@ -39,7 +39,7 @@ module _ (dir : List ℕ) where
     shown : (n : ℕ) → n < block_count → n < blocks image → blocks_of (flat image) n ≡ block_at image n
     shown n own l = block_shown (flat image) n own l
 
-    inside : (p : ℕ) → p < 32768 → Has pag p → 4 + p < blocks image
+    pub inside : (p : ℕ) → p < 32768 → Has pag p → 4 + p < blocks image
     unfolding blocks
     inside p l h = omega (arith, image_length)
 

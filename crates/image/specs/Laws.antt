@@ -5,10 +5,12 @@ use Rattle.directory.specs.Tree.{bits_of}
 use Rattle.flat.specs.Blocks.{blocks, flat}
 use Rattle.image.specs.Files.{Has, joined, page_at}
 
--- its directory is the directory file's, and each page is that of the page file; one that this file does not have is past the limit
+-- Its directory is the directory file's, and each page is that of the page file. A page that this file has is inside the limit, and
+-- one that it does not have is past it.
 pub record Shows (dir pag : List ℕ) : Type 0 where
   pub bits : (i : ℕ) → bits_in (blocks_of (flat (joined dir pag))) i ≡ bits_of dir i
   pub page : (p : ℕ) → p < 32768 → Has pag p → page_in (blocks_of (flat (joined dir pag))) p ≡ page_at pag p
+  pub inside : (p : ℕ) → p < 32768 → Has pag p → 4 + p < blocks (joined dir pag)
   pub past : (p : ℕ) → (Has pag p → ⊥) → blocks (joined dir pag) ≤ 4 + p
 
 abbrev pub FilesShown : Type 0

@@ -91,49 +91,41 @@ module _ {S : Type 0} (steps : Account S) (M : S → Meaning) (d e : S) where
 
   -- a step into a page
   module _ (at : Position) where
-    abbrev Told : Result (Option Position) Fault → Type 0
-    Told r = Made steps M d (λ b. step_calls b at 1024) (λ b. after_step (stepped b at 1024)) r e
-
     abbrev Answered : Result Stepped Fault → Type 0
     Answered r = Made steps M d (λ b. step_calls b at 1024) (λ b. stepped b at 1024) r e
 
-    pub step_told : (r : Result Stepped Fault) → Answered r → Told (after_step r)
-    step_told r made = mapped (Did steps M) after_step (λ f. refl) (step_calls blocks at 1024) d e (stepped blocks at 1024) r made
-
-    pub end_told : (x : Stepped) → x ≡ End → Answered (Ok x) → Told (Ok None)
-    end_told x is made = step_told (Ok End) (subst (λ (y : Stepped). Answered (Ok y)) is made)
+    pub step_told : (r t : Result Stepped Fault) → r ≡ t → Answered r → Made steps M d (λ b. step_calls b at 1024) (λ b. after_step (stepped b at 1024)) (after_step t) e
+    step_told r t is made =
+        mapped (Did steps M) after_step (λ f. refl) (step_calls blocks at 1024) d e (stepped blocks at 1024) t (subst Answered is made)
 
     -- the places that it shows
-    module _ (x : Stepped) (s : Shows) (is : x ≡ Pair s) (made : Answered (Ok x)) where
-      shows : Answered (Ok (Pair s))
-      shows = subst (λ (y : Stepped). Answered (Ok y)) is made
-
-      pub pair_told : Told (Ok (Some s.2))
-      pair_told = step_told (Ok (Pair s)) shows
-
-      pub step_inside : Inside s.0 × Inside s.1
-      step_inside = subst StepInside (sym (own_answer (Did steps M) (step_calls blocks at 1024) d e (Pair s) (stepped blocks at 1024) shows)) (stepped_inside blocks at 1024)
+    pub step_inside : (r : Result Stepped Fault) (s : Shows) → r ≡ Ok (Pair s) → Answered r → Inside s.0 × Inside s.1
+    step_inside r s is made =
+        let own = own_answer (Did steps M) (step_calls blocks at 1024) d e (Pair s) (stepped blocks at 1024) (subst Answered is made) in
+        subst StepInside (sym own) (stepped_inside blocks at 1024)
 
   -- a fetch into a page
   module _ (name : List ℕ) (size : ℕ) (whole : size ≡ 1024) where
     abbrev Fetched : Result (Option Place) Fault → Type 0
     Fetched r = Made steps M d (λ b. fetch_calls b name size) (λ b. fetched b name size) r e
 
-    pub fetch_told : (r : Result (Option Place) Fault) → Fetched r → Made steps M d (λ b. fetch_calls b name 1024) (λ b. accepted (fetched b name 1024)) (accepted r) e
-    fetch_told r made =
-        subst (λ (n : ℕ). Made steps M d (λ b. fetch_calls b name n) (λ b. accepted (fetched b name n)) (accepted r) e) whole
-        (mapped (Did steps M) (λ (r : Result (Option Place) Fault). accepted r) (λ f. refl) (fetch_calls blocks name size) d e (fetched blocks name size) r made)
+    pub fetch_told : (r t : Result (Option Place) Fault) → r ≡ t → Fetched r → Made steps M d (λ b. fetch_calls b name 1024) (λ b. accepted (fetched b name 1024)) (accepted t) e
+    fetch_told r t is made =
+        subst (λ (n : ℕ). Made steps M d (λ b. fetch_calls b name n) (λ b. accepted (fetched b name n)) (accepted t) e) whole
+        (mapped (Did steps M) (λ (r : Result (Option Place) Fault). accepted r) (λ f. refl) (fetch_calls blocks name size) d e (fetched blocks name size) t (subst Fetched is made))
 
     -- the place that it answers lies inside the home page
-    module _ (o : Option Place) (place : Place) (is : o ≡ Some place) (made : Fetched (Ok o)) where
-      with_block : (home : Result (ℕ × Option Place) Fault) → Ok o ≡ place_alone home → (n : ℕ) × (Ok (n, Some place) ≡ home)
-      with_block (Ok home) e = (home.0, ap (λ (q : Option Place). Ok (home.0, q)) (sym is ∙ answer_is e))
+    module _ (r : Result (Option Place) Fault) (place : Place) (is : r ≡ Ok (Some place)) (made : Fetched r) where
+      with_block : (home : Result (ℕ × Option Place) Fault) → Ok (Some place) ≡ place_alone home → (n : ℕ) × (Ok (n, Some place) ≡ home)
+      with_block (Ok home) e = (home.0, ap (λ (q : Option Place). Ok (home.0, q)) (answer_is e))
       with_block (Err f) e =
           let refused : Result (Option Place) Fault = Err f in
           absurd (both_ways (is_ok refused) refl (ap (λ (r : Result (Option Place) Fault). is_ok r) (sym e)))
 
       own : (n : ℕ) × (Ok (n, Some place) ≡ found blocks name size)
-      own = with_block (found blocks name size) (own_answer (Did steps M) (fetch_calls blocks name size) d e o (fetched blocks name size) made)
+      own =
+          with_block (found blocks name size)
+          (own_answer (Did steps M) (fetch_calls blocks name size) d e (Some place) (fetched blocks name size) (subst Fetched is made))
 
       good : Good (home_bytes blocks name)
       good = home_good blocks name size own.0 (Some place) own.1

@@ -5,12 +5,16 @@ mod options;
 
 use listing::{Request, list};
 use options::Options;
-use std::io::Read;
+use std::io::{LineWriter, Read};
 use std::{env, io};
 
-// What is said to a command line that does not fit.
-const USAGE: &str = "give two files, and names on standard input, one on a line:
-    list_image [--window] [--quota] [--cache] [--go-on] [--symbol=NAME].. [--member=NAME].. FILE.dir FILE.pag";
+// What is said to a command line that does not fit: the options, and then, as the error, what has to be given. An error keeps
+// 120 bytes of its text.
+const USAGE: &str =
+    "list_image [--window] [--quota] [--cache] [--go-on] [--symbol=NAME].. [--member=NAME].. FILE.dir FILE.pag";
+
+const FILES: &str =
+    "give two files: list_image FILE.dir FILE.pag, and names on standard input";
 
 fn main(rt: HostRuntime) -> anyhow::Result<()> {
     run(&rt)
@@ -22,7 +26,8 @@ fn run(rt: &HostRuntime) -> anyhow::Result<()> {
         options.take(word)?;
     }
     let (Some(dir), Some(pag), true) = (&options.dir, &options.pag, options.fits) else {
-        return Err(anyhow::anyhow!("{USAGE}"));
+        eprintln!(rt; "usage: {USAGE}")?;
+        return Err(anyhow::anyhow!("{FILES}"));
     };
     let mut names = Vec::new(rt.alloc());
     rt.stdin().read_to_end(&mut names)?;
@@ -35,5 +40,7 @@ fn run(rt: &HostRuntime) -> anyhow::Result<()> {
         symbols: options.symbols.as_slice(),
         members: options.members.as_slice(),
     };
-    list(rt, &mut io::writer(rt), &request)
+    // Each line goes out whole. Without it each piece of a line would be a write of its own.
+    let mut out = LineWriter::new(rt.alloc(), io::writer(rt))?;
+    list(rt, &mut out, &request)
 }

@@ -48,13 +48,10 @@ hex_encoded (b ∷ bs) small =
     let l : b < 256 = small 0 in
     ap₂ ◌∷◌ (digit_at (b / 16) (omega arith)) (ap₂ ◌∷◌ (digit_at (b % 16) (omega arith)) (hex_encoded bs (λ i. small (suc i))))
 
--- what `{:02x}` writes for a byte
-abbrev pub two_wide : ℕ → List ℕ
-two_wide b = padded_integral (format_spec 32 0 4 2 18446744073709551615) false [] (digits 16 false b)
-
 -- a byte that does not stand as itself
-pub escaped : (old new : List ℕ) (b : ℕ) (shown : Option (List ℕ)) → b < 256 → false ≡ plain b → shown ≡ Some (two_wide b) → AppendsText old new (Some (92 ∷ 120 ∷ []) ++? shown) → new ≡ old ++ shown_byte b
-escaped old new b shown l p e w =
-    let h : new ≡ old ++ (92 ∷ 120 ∷ two_digits b)
-    = subst (λ (o : Option (List ℕ)). AppendsText old new (Some (92 ∷ 120 ∷ []) ++? o)) (e ∙ ap Some (hex_byte false b l)) w in
-    h ∙ ap (λ (q : Bool). old ++ cond q (b ∷ []) (92 ∷ 120 ∷ two_digits b)) p
+pub escaped : (old marked half new : List ℕ) (b : ℕ) → false ≡ plain b → marked ≡ old ++ (92 ∷ 120 ∷ []) → half ≡ marked ++ digit (b / 16) ∷ [] → new ≡ half ++ digit (b % 16) ∷ [] → new ≡ old ++ shown_byte b
+escaped old marked half new b p m h n =
+    n ∙ ap (λ (t : List ℕ). t ++ digit (b % 16) ∷ []) (h ∙ ap (λ (t : List ℕ). t ++ digit (b / 16) ∷ []) m)
+    ∙ ap (λ (t : List ℕ). t ++ digit (b % 16) ∷ []) (append_assoc old (92 ∷ 120 ∷ []) (digit (b / 16) ∷ []))
+    ∙ append_assoc old (92 ∷ 120 ∷ digit (b / 16) ∷ []) (digit (b % 16) ∷ [])
+    ∙ ap (λ (q : Bool). old ++ cond q (b ∷ []) (92 ∷ 120 ∷ two_digits b)) p

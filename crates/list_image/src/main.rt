@@ -5,7 +5,7 @@ mod options;
 
 use listing::{Request, list};
 use options::Options;
-use std::io::{LineWriter, Read};
+use std::io::{BufWriter, Read, Write};
 use std::{env, io};
 
 // What is said to a command line that does not fit: the options, and then, as the error, what has to be given. An error keeps
@@ -13,8 +13,7 @@ use std::{env, io};
 const USAGE: &str =
     "list_image [--window] [--quota] [--cache] [--go-on] [--symbol=NAME].. [--member=NAME].. FILE.dir FILE.pag";
 
-const FILES: &str =
-    "give two files: list_image FILE.dir FILE.pag, and names on standard input";
+const FILES: &str = "give two files: list_image FILE.dir FILE.pag, and names on standard input";
 
 fn main(rt: HostRuntime) -> anyhow::Result<()> {
     run(&rt)
@@ -40,7 +39,9 @@ fn run(rt: &HostRuntime) -> anyhow::Result<()> {
         symbols: options.symbols.as_slice(),
         members: options.members.as_slice(),
     };
-    // Each line goes out whole. Without it each piece of a line would be a write of its own.
-    let mut out = LineWriter::new(rt.alloc(), io::writer(rt))?;
-    list(rt, &mut out, &request)
+    // Without a buffer each piece of a line would be a write of its own. What was told before an error goes out too.
+    let mut out = BufWriter::new(rt.alloc(), io::writer(rt))?;
+    let told = list(rt, &mut out, &request);
+    out.flush()?;
+    told
 }

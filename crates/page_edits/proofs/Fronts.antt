@@ -1,6 +1,6 @@
 -- The first pairs of a page, as they lie there.
-use Rattle.std.proofs.Common.{◌≡◌, ℕ, ◌+◌, ◌*◌, ◌<◌, ◌≤◌, Bool, true, List, [], ◌∷◌, ◌++◌, min, length, take, drop, filter, sym, refl, ap, ap₂, subst, ◌∙◌, append_assoc, arith}
-use Rattle.page_edits.proofs.Kept.{cost_take, kept_yes}
+use Rattle.std.proofs.Common.{◌≡◌, ℕ, ◌+◌, ◌*◌, ◌<◌, ◌≤◌, Bool, true, false, List, [], ◌∷◌, ◌++◌, min, length, take, drop, filter, sym, refl, ap, ap₂, subst, ◌∙◌, append_assoc, arith}
+use Rattle.page_edits.proofs.Kept.{cost_take, kept_no, kept_yes}
 use Rattle.page_edits.proofs.One.{drop_between, fits_good, takes}
 use Rattle.page_edits.specs.Bytes.{Packed}
 use Rattle.page_edits.specs.Write.{body, le2, offs}
@@ -56,3 +56,18 @@ module _ (p : PairPage) (f : Pair → Bool) where
       let a : take k ps ≡ ps = take_all k ps (omega (arith, l, past)) in
       let b : take n ps ≡ ps = take_all n ps (omega (arith, l, is)) in
       subst (λ (qs : List Pair). filter f qs ≡ qs) (a ∙ sym b) h
+
+  -- up to a pair that is not kept
+  pub front_next : (k : ℕ) → k < pairs (bytes_of p.good) → false ≡ f (pair_of (bytes_of p.good) k) → filter f (take k (pairs_of (bytes_of p.good))) ≡ take k (pairs_of (bytes_of p.good))
+      → filter f (take (k + 1) (pairs_of (bytes_of p.good))) ≡ take k (pairs_of (bytes_of p.good))
+  front_next k lt e h = kept_no p f k lt e ∙ h
+
+  -- past the last pair there is none that is not kept
+  pub front_end : (k n : ℕ) → pairs (bytes_of p.good) ≤ k → n ≡ pairs (bytes_of p.good) → filter f (take k (pairs_of (bytes_of p.good))) ≡ take k (pairs_of (bytes_of p.good))
+      → filter f (take (n + 1) (pairs_of (bytes_of p.good))) ≡ take n (pairs_of (bytes_of p.good))
+  front_end k n past is h =
+      let page = bytes_of p.good in
+      let ps = pairs_of page in
+      let l = length_pairs page in
+      let a : take n ps ≡ take (n + 1) ps = take_all n ps (omega (arith, l, is)) ∙ sym (take_all (n + 1) ps (omega (arith, l, is))) in
+      subst (λ (qs : List Pair). filter f qs ≡ take n ps) a (front_all k n past is h)

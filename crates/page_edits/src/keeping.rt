@@ -1,4 +1,4 @@
-ghost use Rattle.std.specs.Prelude.{◌≡◌, ◌≤◌, filter, take};
+ghost use Rattle.std.specs.Prelude.{◌≡◌, ◌+◌, ◌≤◌, filter, take};
 ghost use Rattle.page_edits.specs.Bytes.{Packed};
 ghost use Rattle.page_edits.specs.Edit.{Appended, Written, dropped, falling, falls, with_pair};
 ghost use Rattle.page_edits.specs.Stay.{all_but, stays};
@@ -66,7 +66,8 @@ pub fn replace(
 }
 
 // Packs the pairs that are kept into the buffer: those whose hash has these low bits, all but one key's where it is given. Those
-// before the first that is not kept are copied as they lie, and nearly always these are all.
+// before the first that is not kept are copied as they lie, and nearly always these are all. That one is not looked at again, since
+// its key was hashed already: on a page of one long key that goes, the second hash was half of the time.
 // Each edit has it as a loop of its own: with one loop for all three `keep` took 13 % longer (660 ns for 582).
 #[inline(always)]
 fn copy_kept(
@@ -81,7 +82,7 @@ fn copy_kept(
     let first = count_kept(page, but, bits, low);
     let mut packing = Packing::front(page, first, out);
     // Over the numbers of the pairs: with a chain that gives their parts the proof of a turn did not close.
-    for k in first..page.count() {
+    for k in first + 1..page.count() {
         if let Some((pair, value_len)) = page.pair_bytes(k) {
             if stays(&pair[value_len..], but, bits, low) {
                 packing.push_bytes(pair, value_len, out);
@@ -96,6 +97,7 @@ fn copy_kept(
 fn count_kept(page: &PairPage, but: Option<&[u8]>, bits: u32, low: u32) -> usize
     ensures within { result ≤ pairs (bytes_of page.now.good) }
     ensures kept { filter (λ q. stays but.entry bits low q.0) (take result (pairs_of (bytes_of page.now.good))) ≡ take result (pairs_of (bytes_of page.now.good)) }
+    ensures next { filter (λ q. stays but.entry bits low q.0) (take (result + 1) (pairs_of (bytes_of page.now.good))) ≡ take result (pairs_of (bytes_of page.now.good)) }
 {
     let count = page.count();
     for k in 0..count {

@@ -9,7 +9,7 @@ use Rattle.page_edits.proofs.keeping.copy_kept.Goals.{in-Some+then-stays, in-Som
 
 pub loop-k-init : goal.loop-k-init
 loop-k-init c =
-    subst (λ (ps : List Pair). Packed ps c.front-packing.new.out c.front-packing.result.count c.front-packing.result.free) (sym c.count_kept-first.ensures.kept) c.front-packing.ensures
+    subst (λ (ps : List Pair). Packed ps c.front-packing.new.out c.front-packing.result.count c.front-packing.result.free) (sym c.count_kept-first.ensures.next) c.front-packing.ensures
 
 pub push_bytes-requires-clause-room : goal.push_bytes-requires-clause-room
 push_bytes-requires-clause-room c =

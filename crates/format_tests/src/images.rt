@@ -2,7 +2,7 @@
 use crate::building::{Numbers, page_of, told};
 use database::{Database, Position, Stepped};
 use flat::Flat;
-use image::{joined, reachable_from};
+use image::{joined, joined_within, reachable_from};
 use pages::view;
 use std::alloc::{AllocError, Global};
 use std::test::Fail;
@@ -173,6 +173,29 @@ fn bad_page(rt: HostRuntime) -> Result<(), Fail> {
         Ok(None),
         "a bad page that is not reachable"
     );
+    Ok(())
+}
+
+// A short, a whole and an overlong directory, before two bytes and before none.
+#[test]
+fn joins_within(rt: HostRuntime) -> Result<(), Fail> {
+    let long = vec![in rt.alloc(); 7_u8; 4097]?;
+    let filled = [
+        (&long[..0], 0),
+        (&long[..4095], 0),
+        (&long[..4096], 7),
+        (&long[..], 7),
+    ];
+    for (dir, last) in filled {
+        let image = joined_within(dir.to_vec(rt.alloc())?, b"ab".to_vec(rt.alloc())?)?;
+        assert_eq!(rt; image.len(), 4098);
+        assert!(rt; image.starts_with(&dir[..dir.len().min(4096)]));
+        assert!(rt; image.ends_with(&[last, b'a', b'b']));
+        assert_eq!(rt; image, joined(rt.alloc(), dir, b"ab")?);
+        let alone = joined_within(dir.to_vec(rt.alloc())?, Vec::new(rt.alloc()))?;
+        assert_eq!(rt; alone.len(), 4096);
+        assert!(rt; image.starts_with(alone.as_slice()));
+    }
     Ok(())
 }
 

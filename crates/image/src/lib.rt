@@ -23,6 +23,16 @@ pub fn joined(heap: Global, dir: &[u8], pag: &[u8]) -> Result<Vec<u8>, AllocErro
     Ok(image)
 }
 
+// The same image, made in the bytes of the pages, so that they are held once.
+pub fn joined_within(mut dir: Vec<u8>, mut pag: Vec<u8>) -> Result<Vec<u8>, AllocError>
+    ensures { IfOk result (λ image. image.items ≡ joined dir.items pag.items) }
+{
+    dir.resize(DIRECTORY, 0)?;
+    pag.reserve_exact(DIRECTORY)?;
+    pag.splice(0..0, dir)?;
+    Ok(pag)
+}
+
 // The first page from a number on at which some lookup ends.
 pub fn reachable_from(dir: &[u8], page: u32) -> Option<u32>
     ensures { NextReachable dir.now page result }

@@ -9,7 +9,7 @@ pub mod text;
 mod wanted;
 
 use files::{tell_directory, tell_missing, tell_pages};
-use image::joined;
+use image::joined_within;
 pub use stacks::Layers;
 use stacks::list_over;
 use std::fs;
@@ -36,9 +36,9 @@ pub fn list<W: Write>(rt: &HostRuntime, out: &mut W, request: &Request) -> anyho
     tell_directory(out, request.dir, dir.as_deref())?;
     tell_pages(out, request.pag, pag.as_deref())?;
     // A file that cannot be read counts as empty.
-    let dir = dir.as_deref().unwrap_or(&[]);
-    let pag = pag.as_deref().unwrap_or(&[]);
-    tell_missing(out, request.pag, dir, pag)?;
-    let image = joined(rt.alloc(), dir, pag)?;
+    let dir = dir.unwrap_or(Vec::new(rt.alloc()));
+    let pag = pag.unwrap_or(Vec::new(rt.alloc()));
+    tell_missing(out, request.pag, dir.as_slice(), pag.as_slice())?;
+    let image = joined_within(dir, pag)?;
     list_over(rt.alloc(), out, request, image)
 }

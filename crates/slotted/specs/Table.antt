@@ -1,5 +1,5 @@
 -- Which records are used, which are free, and which number each has: what well-formed means speaks of these alone.
-use Rattle.std.specs.Prelude.{◌≡◌, ℕ, zero, suc, ◌<◌, Bool, true, false, cond, ◌&&◌, List, length, Some, None, Option, ◌==◌, ◌≢◌, nat_lt, slice_index_or}
+use Rattle.std.specs.Prelude.{◌≡◌, ℕ, zero, suc, ◌<◌, Bool, true, false, cond, ◌&&◌, List, length, Some, None, Option, ◌==◌, ◌≢◌, nat_lt, slice_index_or, refl}
 
 pub record Table : Type 0 where
   pub used : ℕ → Bool
@@ -28,6 +28,15 @@ good_to t limit (suc k) = good_at t limit k && good_to t limit k
 abbrev pub record_of : ℕ → Option ℕ
 record_of zero = None
 record_of (suc k) = Some k
+
+-- the slot of a record
+abbrev pub slot_of : Option ℕ → ℕ
+slot_of None = 0
+slot_of (Some k) = suc k
+
+pub slot_of-record_of : (x : ℕ) → slot_of (record_of x) ≡ x
+slot_of-record_of zero = refl
+slot_of-record_of (suc k) = refl
 
 -- an index from numbers to those of the first k records
 abbrev pub Listed : Table → ℕ → List (Option ℕ) → Type 0

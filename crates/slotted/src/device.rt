@@ -5,6 +5,7 @@ ghost use Rattle.slotted.specs.Image.{left_in, limit_in, meaning_of, record_in, 
 ghost use Rattle.slotted.specs.Records.{fresh};
 
 use crate::bytes::*;
+use crate::entry::Entry;
 use crate::slotted::Slotted;
 use devices::{BLOCK, Device, ZeroUnheld, check_buffer, check_number};
 use faults::{Fault, Layer, Refusal};
@@ -24,7 +25,7 @@ impl Slotted {
         ensures value { result ≡ record_in self.now.bytes.items n }
         ensures inside { IfSome result (λ k. RECORD * k + RECORD ≤ length self.now.bytes.items) }
     {
-        self.index.get(n as usize)?.map(|k| k as usize)
+        self.index.get(n as usize)?.record().map(|k| k as usize)
     }
 
     // Uses up the first free record.
@@ -37,7 +38,7 @@ impl Slotted {
     {
         let at = RECORD * self.used;
         put_fresh(&mut self.bytes[at..at + RECORD], n);
-        self.index[n as usize] = Some(self.used as u32);
+        self.index[n as usize] = Entry::of(self.used as u32);
         self.used += 1;
         self.left -= 1;
     }

@@ -3,6 +3,7 @@
 
 mod bytes;
 mod device;
+mod entry;
 mod index;
 mod open;
 mod slotted;

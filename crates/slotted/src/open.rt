@@ -2,20 +2,21 @@ ghost use Rattle.std.specs.Prelude.{◌≡◌, false, IfOk, MatchOption, MatchRe
 ghost use Rattle.slotted.specs.Image.{Indexed, WellFormed, well_formed};
 
 use crate::bytes::RECORD;
+use crate::entry::Entry;
 use crate::index::scan;
 use crate::slotted::Slotted;
 use devices::MOST_BLOCKS;
 use std::alloc::{AllocError, AllocFailed, Global};
 
 // The index of the records in the bytes, and how many of them are used; nothing where the bytes are not well-formed.
-fn indexed(heap: Global, bytes: &[u8]) -> Result<Option<(Vec<Option<u32>>, usize)>, AllocError>
+fn indexed(heap: Global, bytes: &[u8]) -> Result<Option<(Vec<Entry>, usize)>, AllocError>
     ensures { IfOk result (λ found. MatchOption found (well_formed bytes.now ≡ false) (λ p. Indexed bytes.now p.0.items p.1)) }
 {
     let records = bytes.len() / RECORD;
     if RECORD * records != bytes.len() || records > MOST_BLOCKS as usize {
         return Ok(None);
     }
-    let mut index = vec![in heap; None; MOST_BLOCKS as usize]?;
+    let mut index = vec![in heap; Entry::none(); MOST_BLOCKS as usize]?;
     let Some(used) = scan(bytes, &mut index) else {
         return Ok(None);
     };

@@ -1,4 +1,4 @@
-use Rattle.std.proofs.Common.{◌≡◌, ℕ, List, length, get_or, Some, None, Option, vec_items, replicate, refl, sym, ap, ◌∙◌, subst, arith}
+use Rattle.std.proofs.Common.{◌≡◌, ℕ, List, length, get_or, None, Option, vec_items, replicate, sym, ap, ◌∙◌, subst, arith}
 use Rattle.slotted.proofs.open.indexed.Goals as goal
 use Rattle.slotted.proofs.open.indexed.Goals.{then-records-bytes-via-then-records-bytes, then-records-bytes-via-else-records-bytes+then-records}
 use Rattle.slotted.proofs.Images.{formed_not}
@@ -14,13 +14,9 @@ returns-then-records-bytes c =
     formed_not c.args.bytes.now
     (λ p. elim c.then-records-bytes.branch [ then-records-bytes-via-then-records-bytes w ↦ omega (arith, w.if-records-bytes.true, p.0) | then-records-bytes-via-else-records-bytes+then-records w ↦ omega (arith, w.if-records.true, p.1) ])
 
-only_none : (P : Option ℕ → Type 0) → ((x : ℕ) → P (Some x) → ⊥) → (y : Option ℕ) → P y → y ≡ None
-only_none P h None p = refl
-only_none P h (Some x) p = absurd (h x p)
-
 pub scan-requires-clause-listed : goal.scan-requires-clause-listed
 scan-requires-clause-listed c =
-    let fresh : vec_items c.in_ok-index.index ≡ replicate {A = Option ℕ} 65544 None = c.in_ok-index.ensures.items_if_clones_equal (only_none _ (λ _ q. q)) in
+    let fresh : vec_items c.in_ok-index.index ≡ replicate {A = Option ℕ} 65544 None = c.in_ok-index.ensures.items_if_clones_equal (λ _ q. q) ∙ ap (replicate 65544) c.none.ensures in
     λ n l.
     ap (λ (xs : List (Option ℕ)). get_or xs n None) (c.deref_mut.ensures.value ∙ fresh)
     ∙ get_or-replicate 65544 n None None (omega (arith, c.deref_mut.ensures.len, c.in_ok-index.ensures.len))

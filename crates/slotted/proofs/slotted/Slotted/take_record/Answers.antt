@@ -1,4 +1,4 @@
-use Rattle.std.proofs.Common.{◌≡◌, ℕ, ◌+◌, ◌-◌, ◌*◌, List, Some, None, is_some, get_or, set, vec_items, vec_len, sym, ap, ◌∙◌, arith}
+use Rattle.std.proofs.Common.{◌≡◌, ℕ, ◌+◌, ◌-◌, ◌*◌, List, Some, None, Option, is_some, get_or, set, vec_items, vec_len, sym, ap, ◌∙◌, arith}
 use Rattle.slotted.proofs.Calls.{take_listed}
 use Rattle.slotted.proofs.Images.{room_left}
 use Rattle.slotted.proofs.Puts.{put_vec}
@@ -25,7 +25,7 @@ invariant_of-self c =
     record {
       sized = d.sized ∙ sym limit;
       listed = λ m l.
-          ap (λ (u : ℕ). get_or (set index n (Some u)) m None) d.counted
+          ap (λ (o : Option ℕ). get_or (set index n o) m None) (c.of.ensures ∙ ap Some d.counted)
           ∙ take_listed s n low none free index (omega (arith, d.sized)) d.listed m (omega (arith, limit, take_limit s n low none free))
           ∙ sym (ap (λ (x : List ℕ). record_in x m) e);
       counted = ap (λ (u : ℕ). u + 1) d.counted ∙ sym (ap used_in e ∙ take_used s n low none free);
